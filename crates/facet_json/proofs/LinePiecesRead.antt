@@ -9,15 +9,15 @@ use Rattle.std.proofs.BufReadLemmas.{drop_through-append}
 use Rattle.std.proofs.KnownBytes.{Consumes-nil, Consumes-kept, Consumes-trans, starts_with_rest}
 use Rattle.facet_json.specs.declared.line_pieces.Stop.{Stop}
 use Rattle.facet_json.specs.declared.line_pieces.Stop.TheVariants.{LineFeed, End, TooLong}
-use Rattle.facet_json.specs.Inner.LinePieces.{Grows, GoesPast, StopsAt, KeepsNext, LeavesNext}
+use Rattle.facet_json.specs.Inner.LinePieces.{LineGrows, GoesPast, LineStops, KeepsNext, LeavesNext}
 
 -- Nothing was read.
-pub grows-nothing : (a b : Option (List ℕ)) (before after : List ℕ) → after ≡ before → Keeps a b → Grows [] a b before after
+pub grows-nothing : (a b : Option (List ℕ)) (before after : List ℕ) → after ≡ before → Keeps a b → LineGrows [] a b before after
 grows-nothing a b before after same kept =
     ([], same ∙ sym (append-nil before), All-nil (λ x. x ≢ 10), Consumes-kept a a b [] (Consumes-nil a) kept)
 
 -- A text grew twice.
-pub grows-then : (more : List ℕ) (a b c : Option (List ℕ)) (t u v : List ℕ) → Grows [] a b t u → Grows more b c u v → Grows more a c t v
+pub grows-then : (more : List ℕ) (a b c : Option (List ℕ)) (t u v : List ℕ) → LineGrows [] a b t u → LineGrows more b c u v → LineGrows more a c t v
 grows-then more a b c t u v p q = (
   p.0 ++ q.0,
   q.1 ∙ ap (λ l. l ++ q.0) p.1 ∙ append_assoc t p.0 q.0,
@@ -31,7 +31,7 @@ known-then (Some x) None bs P p q = absurd p
 known-then (Some x) (Some y) bs P p q = q
 
 -- A text grew, and then stopped.
-pub stops-then : (limit : ℕ) (a b c : Option (List ℕ)) (t u v : List ℕ) (s : Stop) → Grows [] a b t u → StopsAt limit b c u v s → StopsAt limit a c t v s
+pub stops-then : (limit : ℕ) (a b c : Option (List ℕ)) (t u v : List ℕ) (s : Stop) → LineGrows [] a b t u → LineStops limit b c u v s → LineStops limit a c t v s
 stops-then limit a b c t u v LineFeed p q = grows-then (10 ∷ []) a b c t u v p q
 stops-then limit a b c t u v End p q = (grows-then [] a b c t u v p q.0, known-then a b (p.0 ++ []) _ p.3 q.1)
 stops-then limit a b c t u v TooLong p q =

@@ -5,12 +5,12 @@ use Rattle.std.specs.Io.KnownBytes.{IsAtEnd}
 use Rattle.std.specs.Io.BufRead.{drop_through}
 use Rattle.std.proofs.BufReadLemmas.{drop_through-append}
 use Rattle.facet_json.specs.declared.lines.Place.TheVariants.{Between, Within, Past}
-use Rattle.facet_json.specs.Lines.{begin, lines, ComeFirst, Lines, Passes, PassesBlank, PassesTo, Refuses, IsOver, IsBlank}
-use Rattle.facet_json.specs.LineViews.{IsRefused, IsFailure}
+use Rattle.facet_json.specs.Lines.{begin, lines, ComeFirst, Lines, PassesLines, PassesBlank, PassesTo, RefusesLine, HasNoLine, IsBlank}
+use Rattle.facet_json.specs.LineViews.{TellsLine, IsReadFailure}
 use Rattle.facet_json.specs.declared.lines.LineError.{LineError}
 use Rattle.facet_json.specs.declared.lines.LineError.TheVariants.{TooLong, Memory, Io}
 use Rattle.facet_json.specs.Inner.LinePlaces.{left_at}
-use Rattle.facet_json.specs.Inner.LinePieces.{Grows, GoesPast, KeepsNext, LeavesNext}
+use Rattle.facet_json.specs.Inner.LinePieces.{LineGrows, GoesPast, KeepsNext, LeavesNext}
 
 -- The bytes before the first line feed, or all.
 abbrev pub first_line : List ℕ → List ℕ
@@ -78,18 +78,18 @@ still-past text after (Some x) (Some y) h = ap lines (sym h)
 -- ---- a text grew
 
 -- Nothing was passed where a text grew.
-pub grown-within : (t u : List ℕ) (a b : Option (List ℕ)) → Grows [] a b t u → ComeFirst (left_at Within t a) (left_at Within u b) []
+pub grown-within : (t u : List ℕ) (a b : Option (List ℕ)) → LineGrows [] a b t u → ComeFirst (left_at Within t a) (left_at Within u b) []
 grown-within t u None b h = tt
 grown-within t u (Some x) None h = absurd h.3
 grown-within t u (Some x) (Some y) h =
     ap lines (ap (λ l. t ++ l) (h.3 ∙ ap (λ l. l ++ y) (append-nil h.0)) ∙ sym (append_assoc t h.0 y) ∙ ap (λ l. l ++ y) (sym h.1))
 
 -- A text that grew has no line feed.
-pub grown-one : (more : List ℕ) (t u : List ℕ) (a b : Option (List ℕ)) → All (λ x. x ≢ 10) t → Grows more a b t u → All (λ x. x ≢ 10) u
+pub grown-one : (more : List ℕ) (t u : List ℕ) (a b : Option (List ℕ)) → All (λ x. x ≢ 10) t → LineGrows more a b t u → All (λ x. x ≢ 10) u
 grown-one more t u a b all h = subst (All (λ x. x ≢ 10)) (sym h.1) (All-append (λ x. x ≢ 10) t h.0 all h.2)
 
 -- The text is the next line, before its line feed.
-pub fed-line : (t u : List ℕ) (a b : Option (List ℕ)) → All (λ x. x ≢ 10) t → Grows (10 ∷ []) a b t u
+pub fed-line : (t u : List ℕ) (a b : Option (List ℕ)) → All (λ x. x ≢ 10) t → LineGrows (10 ∷ []) a b t u
     → ComeFirst (left_at Within t a) (left_at Between u b) (u ∷ [])
 fed-line t u None b all h = tt
 fed-line t u (Some x) None all h = absurd h.3
@@ -99,7 +99,7 @@ fed-line t u (Some x) (Some y) all h =
     ap lines whole ∙ lines-feed u y (grown-one (10 ∷ []) t u (Some x) (Some y) all h)
 
 -- The text is the last line.
-pub last-line : (t u : List ℕ) (a b : Option (List ℕ)) → All (λ x. x ≢ 10) t → 0 < length u → Grows [] a b t u → IfSome a (λ _. IsAtEnd b)
+pub last-line : (t u : List ℕ) (a b : Option (List ℕ)) → All (λ x. x ≢ 10) t → 0 < length u → LineGrows [] a b t u → IfSome a (λ _. IsAtEnd b)
     → ComeFirst (left_at Within t a) (left_at Between u b) (u ∷ [])
 last-line t u None b all some h end = tt
 last-line t u (Some x) None all some h end = absurd h.3
@@ -109,7 +109,7 @@ last-line t u (Some x) (Some y) all some h end =
     ap lines whole ∙ lines-last u (grown-one [] t u (Some x) (Some y) all h) some ∙ ap (λ l. u ∷ lines l) (sym end)
 
 -- No line is left.
-pub no-line : (t u : List ℕ) (a b : Option (List ℕ)) → u ≡ [] → Grows [] a b t u → IfSome a (λ _. IsAtEnd b) → IfSome (left_at Within t a) (λ ls. ls ≡ [])
+pub no-line : (t u : List ℕ) (a b : Option (List ℕ)) → u ≡ [] → LineGrows [] a b t u → IfSome a (λ _. IsAtEnd b) → IfSome (left_at Within t a) (λ ls. ls ≡ [])
 no-line t u None b none h end = tt
 no-line t u (Some x) None none h end = absurd h.3
 no-line t u (Some x) (Some y) none h end =
@@ -118,7 +118,7 @@ no-line t u (Some x) (Some y) none h end =
     ap lines (whole ∙ none)
 
 -- The next line is longer than the limit.
-pub long-line : (limit : ℕ) (t u : List ℕ) (a b : Option (List ℕ)) → All (λ x. x ≢ 10) t → Grows [] a b t u → GoesPast limit a b u
+pub long-line : (limit : ℕ) (t u : List ℕ) (a b : Option (List ℕ)) → All (λ x. x ≢ 10) t → LineGrows [] a b t u → GoesPast limit a b u
     → (line : List ℕ) × (limit < length line) × ComeFirst (left_at Within t a) (left_at Past u b) (line ∷ [])
 long-line limit t u None b all h past = (u ++ past.0, omega (arith, past.1, length-append u past.0), tt)
 long-line limit t u (Some x) None all h past = absurd h.3
@@ -138,7 +138,7 @@ long-line limit t u (Some x) (Some y) all h past =
 -- ---- refusals
 
 -- A failure came where blank lines alone were passed.
-pub failure-refused : (old new : Lines) (e : LineError) → IsFailure e → PassesBlank old new → IsRefused old new e
+pub failure-refused : (old new : Lines) (e : LineError) → IsReadFailure e → PassesBlank old new → TellsLine old new e
 failure-refused old new (TooLong n) failure passed = absurd failure
 failure-refused old new Memory failure passed = passed
 failure-refused old new (Io e) failure passed = passed
@@ -152,12 +152,12 @@ none-blank old new first same limit = record {
 }
 
 -- One line was passed.
-pub one-passed : (old new : Lines) (line : List ℕ) → ComeFirst old.left new.left (line ∷ []) → new.number ≡ old.number + 1 → new.limit ≡ old.limit → Passes old new (line ∷ [])
+pub one-passed : (old new : Lines) (line : List ℕ) → ComeFirst old.left new.left (line ∷ []) → new.number ≡ old.number + 1 → new.limit ≡ old.limit → PassesLines old new (line ∷ [])
 one-passed old new line first next limit = record { first = first; counted = next; limit = limit }
 
 -- The one line that was passed is longer than the limit.
 pub long-refused : (old new : Lines) → (line : List ℕ) × (new.limit < length line) × ComeFirst old.left new.left (line ∷ []) → new.number ≡ old.number + 1 → new.limit ≡ old.limit
-    → Refuses old new
+    → RefusesLine old new
 long-refused old new h next limit = record {
   line = h.0;
   passed = record { blank = []; all_blank = All-nil IsBlank; passed = one-passed old new h.0 h.2 next limit };
@@ -166,7 +166,7 @@ long-refused old new h next limit = record {
 
 -- ---- lines one after another
 
-passes-then : (a b c : Lines) (p q : List (List ℕ)) → Passes a b p → Passes b c q → Passes a c (p ++ q)
+passes-then : (a b c : Lines) (p q : List (List ℕ)) → PassesLines a b p → PassesLines b c q → PassesLines a c (p ++ q)
 passes-then a b c p q h k = record {
   first = first-then a.left b.left c.left p q h.first k.first;
   counted = omega (arith, h.counted, k.counted, length-append p q);
@@ -186,23 +186,23 @@ pub blank-to : (a b c : Lines) (line : List ℕ) → PassesBlank a b → PassesT
 blank-to a b c line h k = record {
   blank = h.blank ++ k.blank;
   all_blank = All-append IsBlank h.blank k.blank h.all_blank k.all_blank;
-  passed = subst (Passes a c) (sym (append_assoc h.blank k.blank (line ∷ []))) (passes-then a b c h.blank (k.blank ++ line ∷ []) h.passed k.passed);
+  passed = subst (PassesLines a c) (sym (append_assoc h.blank k.blank (line ∷ []))) (passes-then a b c h.blank (k.blank ++ line ∷ []) h.passed k.passed);
 }
 
 -- The line that was passed, with none before it.
-pub to-next : (a b : Lines) (line : List ℕ) → Passes a b (line ∷ []) → PassesTo a b line
+pub to-next : (a b : Lines) (line : List ℕ) → PassesLines a b (line ∷ []) → PassesTo a b line
 to-next a b line h = record { blank = []; all_blank = All-nil IsBlank; passed = h }
 
 -- The line that was passed is blank.
-pub one-blank : (a b : Lines) (line : List ℕ) → Passes a b (line ∷ []) → IsBlank line → PassesBlank a b
+pub one-blank : (a b : Lines) (line : List ℕ) → PassesLines a b (line ∷ []) → IsBlank line → PassesBlank a b
 one-blank a b line h is = record { blank = line ∷ []; all_blank = All-cons IsBlank line [] is (All-nil IsBlank); passed = h }
 
 -- No line is left behind blank ones.
-pub blank-over : (a b c : Lines) → PassesBlank a b → Passes b c [] → IfSome b.left (λ ls. ls ≡ []) → IsOver a c
+pub blank-over : (a b c : Lines) → PassesBlank a b → PassesLines b c [] → IfSome b.left (λ ls. ls ≡ []) → HasNoLine a c
 blank-over a b c h k end = record {
   blank = h.blank;
   all_blank = h.all_blank;
-  passed = subst (Passes a c) (append-nil h.blank) (passes-then a b c h.blank [] h.passed k);
+  passed = subst (PassesLines a c) (append-nil h.blank) (passes-then a b c h.blank [] h.passed k);
   all = at a.left b.left h.passed.first end;
 }
   where
@@ -212,7 +212,7 @@ blank-over a b c h k end = record {
     at (Some x) (Some y) first end = first ∙ ap (λ l. h.blank ++ l) end ∙ append-nil h.blank
 
 -- A refusal behind blank lines.
-pub blank-refused : (a b c : Lines) (e : LineError) → PassesBlank a b → IsRefused b c e → IsRefused a c e
+pub blank-refused : (a b c : Lines) (e : LineError) → PassesBlank a b → TellsLine b c e → TellsLine a c e
 blank-refused a b c (TooLong n) h k =
     (record { line = k.0.line; passed = blank-to a b c k.0.line h k.0.passed; longer = k.0.longer }, k.1)
 blank-refused a b c Memory h k = blank-then a b c h k

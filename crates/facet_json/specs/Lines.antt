@@ -30,7 +30,7 @@ abbrev pub ComeFirst : Option (List (List ℕ)) → Option (List (List ℕ)) →
 ComeFirst old new passed = IfSome old (λ ls. IsSomeAnd new (λ rest. ls ≡ passed ++ rest))
 
 -- These lines were passed, and are counted.
-pub record Passes (old new : Lines) (passed : List (List ℕ)) : Type 0 where
+pub record PassesLines (old new : Lines) (passed : List (List ℕ)) : Type 0 where
   pub first : ComeFirst old.left new.left passed
   pub counted : new.number ≡ old.number + length passed
   pub limit : new.limit ≡ old.limit
@@ -39,30 +39,30 @@ pub record Passes (old new : Lines) (passed : List (List ℕ)) : Type 0 where
 pub record PassesBlank (old new : Lines) : Type 0 where
   pub blank : List (List ℕ)
   pub all_blank : All IsBlank blank
-  pub passed : Passes old new blank
+  pub passed : PassesLines old new blank
 
 -- Blank lines alone were passed, and then this one.
 pub record PassesTo (old new : Lines) (line : List ℕ) : Type 0 where
   pub blank : List (List ℕ)
   pub all_blank : All IsBlank blank
-  pub passed : Passes old new (blank ++ line ∷ [])
+  pub passed : PassesLines old new (blank ++ line ∷ [])
 
 -- A line was given: one that is not blank, nor longer than the limit.
-pub record Gives (old new : Lines) (line : List ℕ) : Type 0 where
+pub record GivesLine (old new : Lines) (line : List ℕ) : Type 0 where
   pub passed : PassesTo old new line
   pub filled : IsBlank line → ⊥
   pub within : length line ≤ new.limit
   pub one : All (λ x. x ≢ 10) line
 
 -- A line was refused: one that is longer than the limit.
-pub record Refuses (old new : Lines) : Type 0 where
+pub record RefusesLine (old new : Lines) : Type 0 where
   pub line : List ℕ
   pub passed : PassesTo old new line
   pub longer : new.limit < length line
 
 -- No line was left but blank ones.
-pub record IsOver (old new : Lines) : Type 0 where
+pub record HasNoLine (old new : Lines) : Type 0 where
   pub blank : List (List ℕ)
   pub all_blank : All IsBlank blank
-  pub passed : Passes old new blank
+  pub passed : PassesLines old new blank
   pub all : IfSome old.left (λ ls. ls ≡ blank)

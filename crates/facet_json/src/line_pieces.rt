@@ -2,7 +2,7 @@
 
 ghost use Rattle.std.specs.Prelude.{◌≡◌, ◌≢◌, ◌+◌, ◌<◌, ◌≤◌, ℕ, List, [], ◌∷◌, All, length, take, slice_index, IfOk, IfSome, IfNone, OnOk, OnErr, None, true, false, vec_len};
 ghost use Rattle.std.specs.Io.KnownBytes.{Keeps};
-ghost use Rattle.facet_json.specs.Inner.LinePieces.{Grows, StopsAt, KeepsNext, LeavesNext};
+ghost use Rattle.facet_json.specs.Inner.LinePieces.{LineGrows, LineStops, KeepsNext, LeavesNext};
 
 use std::io;
 use std::io::{BufRead, ErrorKind};
@@ -26,8 +26,8 @@ pub(crate) fn read_text<R: BufRead>(
 ) -> io::Result<Stop>
     requires { vec_len text.old ≤ limit }
     ensures within { vec_len text.new ≤ limit }
-    ensures stop { IfOk result (StopsAt limit (R.remaining reader.old) (R.remaining reader.new) text.old.items text.new.items) }
-    ensures err { OnErr result (Grows [] (R.remaining reader.old) (R.remaining reader.new) text.old.items text.new.items) }
+    ensures stop { IfOk result (LineStops limit (R.remaining reader.old) (R.remaining reader.new) text.old.items text.new.items) }
+    ensures err { OnErr result (LineGrows [] (R.remaining reader.old) (R.remaining reader.new) text.old.items text.new.items) }
 {
     for _ in 0..u64::MAX {
         match read_piece(reader, text, limit) {
@@ -47,9 +47,9 @@ fn read_piece<R: BufRead>(
 ) -> io::Result<Option<Stop>>
     requires { vec_len text.old ≤ limit }
     ensures within { vec_len text.new ≤ limit }
-    ensures stop { IfOk result (λ o. IfSome o (StopsAt limit (R.remaining reader.old) (R.remaining reader.new) text.old.items text.new.items)) }
-    ensures inside { IfOk result (λ o. IfNone o (Grows [] (R.remaining reader.old) (R.remaining reader.new) text.old.items text.new.items)) }
-    ensures err { OnErr result (Grows [] (R.remaining reader.old) (R.remaining reader.new) text.old.items text.new.items) }
+    ensures stop { IfOk result (λ o. IfSome o (LineStops limit (R.remaining reader.old) (R.remaining reader.new) text.old.items text.new.items)) }
+    ensures inside { IfOk result (λ o. IfNone o (LineGrows [] (R.remaining reader.old) (R.remaining reader.new) text.old.items text.new.items)) }
+    ensures err { OnErr result (LineGrows [] (R.remaining reader.old) (R.remaining reader.new) text.old.items text.new.items) }
 {
     let shown = match reader.fill_buf() {
         Ok(shown) => shown,

@@ -9,8 +9,8 @@ ghost use Rattle.facet_json_document.specs.OneRun.{IsOneRun};
 ghost use Rattle.facet_json_document.specs.StrictDocument.{IsStrict};
 ghost use Rattle.facet_json_document.specs.UnreadLaws.{RefusalWithin};
 ghost use Rattle.facet_json.specs.Inputs.{IsReadFrom, IsUnreadFrom, BeginsWithDocument, BeginsWithRun, IsReadStrictly, IsUnreadStrictly, IsToldOf};
-ghost use Rattle.facet_json.specs.Lines.{lines, IsBlank, ComeFirst, Passes, Gives, IsOver};
-ghost use Rattle.facet_json.specs.LineViews.{message, IsNext, IsRefused, IsFailure};
+ghost use Rattle.facet_json.specs.Lines.{lines, IsBlank, ComeFirst, PassesLines, GivesLine, HasNoLine};
+ghost use Rattle.facet_json.specs.LineViews.{line_message, IsNext, TellsLine, IsReadFailure};
 ghost use Rattle.facet_json.specs.Inner.LinePlaces.{left_at, IsAt};
 ghost use Rattle.facet_json.specs.declared.lines.Place.TheVariants.{Within};
 
@@ -89,7 +89,7 @@ pub enum LineError {
 
 /// The message: a line for a person, without its line feed.
 impl fmt::Display for LineError {
-    ghost output = { message };
+    ghost output = { line_message };
 
     fn fmt<W: fmt::Write>(&self, f: &mut fmt::Formatter<W>) -> fmt::Result {
         match self {
@@ -188,9 +188,9 @@ impl<R: BufRead> Lines<R> {
 
     /// Passes lines up to the next one that is not blank, and says whether there was one.
     fn advance(&mut self) -> Result<bool, LineError>
-        ensures line { result ≡ Ok true → Gives self.old self.new self.new.line }
-        ensures over { result ≡ Ok false → IsOver self.old self.new }
-        ensures err { IfErr result (IsRefused self.old self.new) }
+        ensures line { result ≡ Ok true → GivesLine self.old self.new self.new.line }
+        ensures over { result ≡ Ok false → HasNoLine self.old self.new }
+        ensures err { IfErr result (TellsLine self.old self.new) }
     {
         'blank: loop {
             match self.pass_line() {
@@ -207,12 +207,12 @@ impl<R: BufRead> Lines<R> {
 
     /// Passes the next line, blank or not, and says whether there was one.
     fn pass_line(&mut self) -> Result<bool, LineError>
-        ensures line { result ≡ Ok true → Passes self.old self.new (self.new.line ∷ []) }
+        ensures line { result ≡ Ok true → PassesLines self.old self.new (self.new.line ∷ []) }
         ensures one { result ≡ Ok true → All (λ x. x ≢ 10) self.new.line }
         ensures within { result ≡ Ok true → length self.new.line ≤ self.new.limit }
         ensures fits { self.new.number < 2 ^ 64 }
-        ensures over { result ≡ Ok false → Passes self.old self.new [] × IfSome self.old.left (λ ls. ls ≡ []) }
-        ensures err { IfErr result (IsRefused self.old self.new) }
+        ensures over { result ≡ Ok false → PassesLines self.old self.new [] × IfSome self.old.left (λ ls. ls ≡ []) }
+        ensures err { IfErr result (TellsLine self.old self.new) }
     {
         let Some(number) = self.number.checked_add(1) else {
             return Err(LineError::Io(io::Error::from(ErrorKind::TimedOut)));
@@ -271,7 +271,7 @@ fn resume<R: BufRead>(reader: &mut R, text: &mut Vec<u8>, place: Place) -> io::R
 
 /// A failed allocation, or the reader's own failure.
 fn failed(error: io::Error) -> LineError
-    ensures { IsFailure result }
+    ensures { IsReadFailure result }
 {
     if error.kind() == ErrorKind::OutOfMemory {
         LineError::Memory

@@ -5,7 +5,7 @@ use Rattle.facet_json_document.specs.Language.{Language}
 use Rattle.facet_json_command.specs.declared.outcome.Outcome.{Outcome}
 use Rattle.facet_json_command.specs.declared.outcome.Outcome.TheVariants.{Done, Refused, Io, Usage}
 use Rattle.facet_json_command.specs.Outcome.{IsFailure, IsFaultOfRun}
-use Rattle.facet_json_command.specs.Run.{OutcomeWithin, Grows, Lists}
+use Rattle.facet_json_command.specs.Run.{OutcomeWithin, OnlyGrows, Lists}
 use Rattle.facet_json_command.proofs.Printing.{appends_nothing}
 use Rattle.facet_json_command.proofs.Listing.{grows_keeps, lists_keeps, lists_grow}
 
@@ -19,7 +19,7 @@ pub fault_within : (outcome : Outcome) (len : ℕ) → IsFaultOfRun outcome → 
 fault_within outcome len (inl memory) = rw memory tt
 fault_within outcome len (inr io) = rw io tt
 
-pub no_growth : (held : Option (List ℕ)) → Grows held held
+pub no_growth : (held : Option (List ℕ)) → OnlyGrows held held
 no_growth held = ([], appends_nothing held)
 
 pub unread_lists : (language : Language) (remaining held : Option (List ℕ)) (outcome : Outcome) → IsFaultOfRun outcome →
@@ -42,7 +42,7 @@ events_end language (Some input) items a b c printed final read lists (inr same)
     rw same.0 (lists_keeps language input a b c printed (subst (λ i. Lists language i a b printed) read lists) same.1)
 
 pub events_grow : (language : Language) (items : List ℕ) (a b c : Option (List ℕ)) (printed final : Outcome) →
-    Lists language items a b printed → Ends b c printed final → final ≢ Io → Grows a c
+    Lists language items a b printed → Ends b c printed final → final ≢ Io → OnlyGrows a c
 events_grow language items a b c printed final lists (inl io) other = absurd (other io)
 events_grow language items a b c printed final lists (inr same) other =
     grows_keeps a b c (lists_grow language items a b printed lists (λ io. other (same.0 ∙ io))) same.1

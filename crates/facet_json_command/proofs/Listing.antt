@@ -13,7 +13,7 @@ use Rattle.facet_json_document.proofs.MoveLaws.{moves-one_more}
 use Rattle.facet_json_command.specs.Lines.{event_line}
 use Rattle.facet_json_command.specs.declared.outcome.Outcome.{Outcome}
 use Rattle.facet_json_command.specs.declared.outcome.Outcome.TheVariants.{Done, Refused, Io, Usage}
-use Rattle.facet_json_command.specs.Run.{Grows, Stops, AreListed, Lists}
+use Rattle.facet_json_command.specs.Run.{OnlyGrows, Stops, AreListed, Lists}
 use Rattle.facet_json_command.proofs.Printing.{appends_nothing, appends_both, appends_keeps, stops_behind, stops_keeps}
 
 -- the answers that give these events
@@ -75,7 +75,7 @@ line_stopped language input a b c parser Usage so_far stops = absurd stops
 
 -- ---- after the last line
 
-pub grows_keeps : (a b c : Option (List ℕ)) → Grows a b → Keeps b c → Grows a c
+pub grows_keeps : (a b c : Option (List ℕ)) → OnlyGrows a b → Keeps b c → OnlyGrows a c
 grows_keeps a b c grows keeps = (grows.0, appends_keeps a b c grows.0 grows.1 keeps)
 
 listed_keeps : (language : Language) (input : List ℕ) (a b c : Option (List ℕ)) (last : Answer) → AreListed language input a b last →
@@ -101,7 +101,7 @@ lists_keeps language input a b c Io lists keeps = tt
 lists_keeps language input a b c Usage lists keeps = lists
 
 pub lists_grow : (language : Language) (input : List ℕ) (a b : Option (List ℕ)) (outcome : Outcome) → Lists language input a b outcome →
-    outcome ≢ Io → Grows a b
+    outcome ≢ Io → OnlyGrows a b
 lists_grow language input a b Done lists other = (flat_map event_line lists.given, lists.printed)
 lists_grow language input a b (Refused code span) (inl no_memory) other = no_memory.2
 lists_grow language input a b (Refused code span) (inr refused) other = (flat_map event_line refused.listed.given, refused.listed.printed)

@@ -5,7 +5,7 @@ use Rattle.std.specs.Io.KnownBytes.{Appends, Keeps}
 use Rattle.std.proofs.lemmas.List.{append-nil, append_assoc}
 use Rattle.facet_json_command.specs.declared.outcome.Outcome.{Outcome}
 use Rattle.facet_json_command.specs.declared.outcome.Outcome.TheVariants.{Done, Refused, Io, Usage}
-use Rattle.facet_json_command.specs.Run.{Grows, OutcomeWithin, Stops, Prints}
+use Rattle.facet_json_command.specs.Run.{OnlyGrows, OutcomeWithin, Stops, Prints}
 
 pub appends_nothing : (held : Option (List ℕ)) → Appends held held []
 appends_nothing None = tt
@@ -23,7 +23,7 @@ appends_keeps (Some held) None c xs appends keeps = absurd appends
 appends_keeps (Some held) (Some mid) None xs appends keeps = absurd keeps
 appends_keeps (Some held) (Some mid) (Some last) xs appends keeps = keeps ∙ appends
 
-pub grows_both : (a b c : Option (List ℕ)) (xs : List ℕ) → Appends a b xs → Grows b c → Grows a c
+pub grows_both : (a b c : Option (List ℕ)) (xs : List ℕ) → Appends a b xs → OnlyGrows b c → OnlyGrows a c
 grows_both a b c xs first second = (xs ++ second.0, appends_both a b c xs second.0 first second.1)
 
 -- Printing that stopped after what was written

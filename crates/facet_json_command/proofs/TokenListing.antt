@@ -24,7 +24,7 @@ use Rattle.facet_json_command.specs.Lines.{place_line}
 use Rattle.facet_json_command.specs.TokenLines.{token_line, token_lines, fault_code, EndAs}
 use Rattle.facet_json_command.specs.TokenViews.{line_answered, text_of_token, code_of_kind}
 use Rattle.facet_json_command.specs.Outcome.{IsFaultOfRun}
-use Rattle.facet_json_command.specs.Run.{Grows, Stops, Prints, AreTokensListed, ListsTokens}
+use Rattle.facet_json_command.specs.Run.{OnlyGrows, Stops, Prints, AreTokensListed, ListsTokens}
 use Rattle.facet_json_command.specs.Session.{outcome_of}
 use Rattle.facet_json_command.proofs.Printing.{appends_both, appends_keeps, stops_behind, stops_keeps}
 use Rattle.facet_json_command.proofs.Listing.{grows_keeps}
@@ -170,7 +170,7 @@ tokens_keep mode input a b c Io lists keeps = tt
 tokens_keep mode input a b c Usage lists keeps = lists
 
 tokens_grow : (mode : Mode) (input : List ℕ) (a b : Option (List ℕ)) (outcome : Outcome) → ListsTokens mode input a b outcome →
-    outcome ≢ Io → Grows a b
+    outcome ≢ Io → OnlyGrows a b
 tokens_grow mode input a b Done lists other = (token_lines (length input) lists.these, lists.printed)
 tokens_grow mode input a b (Refused code span) (inl no_memory) other = no_memory.2
 tokens_grow mode input a b (Refused code span) (inr told) other = (token_lines (length input) told.these, told.printed)
@@ -204,7 +204,7 @@ itself s None = refl
 itself s (Some e) = tt
 
 pub tokens_end_grows : (mode : Mode) (s : Scanned) (a b c : Option (List ℕ)) (printed final : Outcome) → AreTokensOf s.buf.items mode s →
-    PrintsScan s a b printed → Ends b c printed final → final ≢ Io → Grows a c
+    PrintsScan s a b printed → Ends b c printed final → final ≢ Io → OnlyGrows a c
 tokens_end_grows mode s a b c printed final scanned prints (inl io) other = absurd (other io)
 tokens_end_grows mode s a b c printed final scanned prints (inr same) other =
     let lists = prints mode s.buf.items scanned (itself s s.refusal) in

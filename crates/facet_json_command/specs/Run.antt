@@ -80,13 +80,13 @@ Formats language pretty input before after Io = Unit {0}
 Formats language pretty input before after Usage = ⊥
 
 -- The bytes that a writer is known to hold are still at the start of what it holds.
-abbrev pub Grows : Option (List ℕ) → Option (List ℕ) → Type 0
-Grows before after = (written : List ℕ) × Appends before after written
+abbrev pub OnlyGrows : Option (List ℕ) → Option (List ℕ) → Type 0
+OnlyGrows before after = (written : List ℕ) × Appends before after written
 
 -- How printing stops before its end: memory was wanted, which has no place in the input, and a prefix is written; or a write failed.
 abbrev pub Stops : Option (List ℕ) → Option (List ℕ) → Outcome → Type 0
 Stops before after Done = ⊥
-Stops before after (Refused code span) = (code ≡ 9) × (span ≡ None) × Grows before after
+Stops before after (Refused code span) = (code ≡ 9) × (span ≡ None) × OnlyGrows before after
 Stops before after Io = Unit {0}
 Stops before after Usage = ⊥
 

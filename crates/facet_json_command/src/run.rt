@@ -23,7 +23,7 @@ ghost use Rattle.facet_json_command.specs.declared.outcome.Outcome.TheVariants a
 ghost use Rattle.facet_json_command.specs.Arguments.{Command as SpecCommand, AskFor, AskForNothing, fmt, drive as drives};
 ghost use Rattle.facet_json_command.specs.OutcomeViews.{words_of, read_as, command_view};
 ghost use Rattle.facet_json_command.specs.Lines.{answer_lines};
-ghost use Rattle.facet_json_command.specs.Run.{IsDocumentIn, HasDocumentIn, layout, IsReformatted, IsRefusal, OutcomeWithin, Formats, Grows, Prints, Lists, ListsTokens, Drives, AnswersInput, ForFmt, ForDrive};
+ghost use Rattle.facet_json_command.specs.Run.{IsDocumentIn, HasDocumentIn, layout, IsReformatted, IsRefusal, OutcomeWithin, Formats, OnlyGrows, Prints, Lists, ListsTokens, Drives, AnswersInput, ForFmt, ForDrive};
 ghost use Rattle.facet_json_command.specs.Outcome.{IsFailure, IsFaultOfRun};
 ghost use Rattle.facet_json_command.specs.Session.{Marks, outcome_of};
 
@@ -61,7 +61,7 @@ pub fn run<R: Read, W: Write>(
     ensures driven { (language : SpecLanguage) (calls : List SpecCall) → AskFor (drives language calls) (words_of args.now)
         → (result ≡ outcome.Done) ⊎ IsFaultOfRun result }
     ensures within { IfSome (R.remaining reader.old) (λ input. OutcomeWithin (length input) result) }
-    ensures grows { result ≢ outcome.Io → Grows (W.contents writer.old) (W.contents writer.new) }
+    ensures grows { result ≢ outcome.Io → OnlyGrows (W.contents writer.old) (W.contents writer.new) }
 {
     let mut session = Session::new(alloc);
     match command_of(alloc, args) {
@@ -85,7 +85,7 @@ fn obey<R: Read, W: Write>(
     ensures only { ForFmt (command_view command) (λ language. IfSome (R.remaining reader.old) (λ input.
         HasDocumentIn language input → (result ≡ outcome.Done) ⊎ IsFailure result)) }
     ensures driven { ForDrive (command_view command) ((result ≡ outcome.Done) ⊎ IsFaultOfRun result) }
-    ensures grows { result ≢ outcome.Io → Grows (W.contents writer.old) (W.contents writer.new) }
+    ensures grows { result ≢ outcome.Io → OnlyGrows (W.contents writer.old) (W.contents writer.new) }
     ensures within { IfSome (R.remaining reader.old) (λ input. OutcomeWithin (length input) result) }
     ensures marks { Marks session.old.failed session.new.failed result }
 {
@@ -114,7 +114,7 @@ fn format<R: Read, W: Write>(
         (λ before. Formats (read_as language) pretty input before (W.contents writer.new) result)) }
     ensures only { IfSome (R.remaining reader.old) (λ input. HasDocumentIn (read_as language) input
         → (result ≡ outcome.Done) ⊎ IsFailure result) }
-    ensures grows { result ≢ outcome.Io → Grows (W.contents writer.old) (W.contents writer.new) }
+    ensures grows { result ≢ outcome.Io → OnlyGrows (W.contents writer.old) (W.contents writer.new) }
     ensures within { IfSome (R.remaining reader.old) (λ input. OutcomeWithin (length input) result) }
     ensures marks { Marks session.old.failed session.new.failed result }
 {
@@ -252,7 +252,7 @@ fn print_events<R: Read, W: Write>(
     ensures ends { result ≢ outcome.Usage }
     ensures listed { IfSome (R.remaining reader.old) (λ input.
         Lists (read_as language) input (W.contents writer.old) (W.contents writer.new) result) }
-    ensures grows { result ≢ outcome.Io → Grows (W.contents writer.old) (W.contents writer.new) }
+    ensures grows { result ≢ outcome.Io → OnlyGrows (W.contents writer.old) (W.contents writer.new) }
     ensures within { IfSome (R.remaining reader.old) (λ input. OutcomeWithin (length input) result) }
     ensures marks { Marks session.old.failed session.new.failed result }
 {
@@ -310,7 +310,7 @@ fn print_tokens<R: Read, W: Write>(
     ensures ends { result ≢ outcome.Usage }
     ensures listed { IfSome (R.remaining reader.old) (λ input.
         ListsTokens (mode_of mode) input (W.contents writer.old) (W.contents writer.new) result) }
-    ensures grows { result ≢ outcome.Io → Grows (W.contents writer.old) (W.contents writer.new) }
+    ensures grows { result ≢ outcome.Io → OnlyGrows (W.contents writer.old) (W.contents writer.new) }
     ensures within { IfSome (R.remaining reader.old) (λ input. OutcomeWithin (length input) result) }
     ensures marks { Marks session.old.failed session.new.failed result }
 {
@@ -335,7 +335,7 @@ fn print_answers<R: Read, W: Write>(
     ensures ends { (result ≡ outcome.Done) ⊎ IsFaultOfRun result }
     ensures answers { IfSome (R.remaining reader.old) (λ input. IfSome (W.contents writer.old) (λ before.
         Drives (read_as language) (map call_of calls.now) input before (W.contents writer.new) result)) }
-    ensures grows { result ≢ outcome.Io → Grows (W.contents writer.old) (W.contents writer.new) }
+    ensures grows { result ≢ outcome.Io → OnlyGrows (W.contents writer.old) (W.contents writer.new) }
     ensures within { IfSome (R.remaining reader.old) (λ input. OutcomeWithin (length input) result) }
     ensures marks { Marks session.old.failed session.new.failed result }
 {

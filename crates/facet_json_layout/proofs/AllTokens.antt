@@ -22,7 +22,7 @@ use Rattle.facet_json_document.specs.Tree.{Tree}
 use Rattle.facet_json_document.proofs.Runs.SpelledRuns.{spelled_is_run}
 use Rattle.facet_json_layout.specs.Formatted.{IsOneDocument}
 use Rattle.facet_json_layout.specs.Inner.Layout.{all_tokens}
-use Rattle.facet_json_layout.specs.Pieces.{Piece, trimmed, with_comment, pieces_from, pieces}
+use Rattle.facet_json_layout.specs.Pieces.{TextPiece, trimmed, with_comment, pieces_from, pieces}
 use Rattle.facet_json_layout.proofs.PieceSteps.{after_cut, after_gap, pieces-first}
 use Rattle.facet_json_layout.proofs.PieceComments.{block-end, line-end}
 use Rattle.facet_json_layout.proofs.PieceShapes.{IsTokenText, token-here, token-elsewhere}
@@ -43,7 +43,7 @@ mutual
   runs-end _ _ (separator t ts rest e more) h = runs-end ts rest more h
   runs-end _ _ (a_run ts others rest last run more) h = run-ends ts others last run (runs-end others rest more h)
 
-comment-tokens : (text : List ℕ) (ps : List Piece) → all_tokens ps ≡ true → all_tokens (with_comment text ps) ≡ true
+comment-tokens : (text : List ℕ) (ps : List TextPiece) → all_tokens ps ≡ true → all_tokens (with_comment text ps) ≡ true
 comment-tokens [] ps e = e
 comment-tokens (b ∷ text) ps e = e
 

@@ -16,7 +16,7 @@ use Rattle.facet_json_document.proofs.MoveLaws.{with_cursor, StepOf, by_step}
 use Rattle.facet_json_document.proofs.MovesNext.{event-comes, end-comes, next-passes, next-over}
 use Rattle.facet_json_document.proofs.WalkComes.{events_before-append}
 use Rattle.facet_json_core.specs.Reading.{LacksMemory}
-use Rattle.facet_json_layout.specs.Formatted.{BreaksOff}
+use Rattle.facet_json_layout.specs.Formatted.{GetsStuck}
 use Rattle.facet_json_layout.specs.Inner.Checking.{last_after, PassesSome, PassesUp, Told}
 
 -- ---- lists of events
@@ -116,7 +116,7 @@ up-to_end old now new last some move told =
 
 -- Or a refusal, after events that came.
 pub stops-later : (old now : Now) (events : List Passed) (r : Refusal) → future_of old ≡ events_before events (future_of now) →
-    now.buffer ≡ old.buffer → StopsHere now r → BreaksOff old r
+    now.buffer ≡ old.buffer → StopsHere now r → GetsStuck old r
 stops-later old now events r comes same s = record {
   events = events;
   place = s.place;
@@ -126,7 +126,7 @@ stops-later old now events r comes same s = record {
 }
 
 pub refused-after : (old now new : Now) (r : Refusal) → PassesSome old now → now.buffer ≡ old.buffer → now.cursor.refusal ≡ None →
-    Moves now next (event (Err r)) new → LacksMemory r ⊎ BreaksOff old r
+    Moves now next (event (Err r)) new → LacksMemory r ⊎ GetsStuck old r
 refused-after old now new r some same free move = elim (refused-next now new r free move) [
   | inl lacks ↦ inl lacks
   | inr s ↦ inr (stops-later old now some.events r some.comes same s)

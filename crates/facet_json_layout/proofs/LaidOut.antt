@@ -7,29 +7,29 @@ use Rattle.facet_json_layout.specs.declared.pieces.Sort.{Sort}
 use Rattle.facet_json_layout.specs.declared.pieces.Sort.TheVariants as sort
 use Rattle.facet_json_layout.specs.declared.spacing.Space.{Space}
 use Rattle.facet_json_layout.specs.declared.spacing.Space.TheVariants as space
-use Rattle.facet_json_layout.specs.Pieces.{Piece, pieces, is_comma, closing_next, without_trailing_commas}
-use Rattle.facet_json_layout.specs.Inner.Layout.{ends_number, may_follow, is_comma_sort, piece_of, IsPiece, all_tokens, IsSpaced, BeginsSpace, parts, IsLaidOut}
+use Rattle.facet_json_layout.specs.Pieces.{TextPiece, pieces, is_comma, closing_next, without_trailing_commas}
+use Rattle.facet_json_layout.specs.Inner.Layout.{ends_number, may_follow, is_comma_sort, piece_of, BeginsPiece, all_tokens, IsSpaced, BeginsSpace, keeps_apart, IsLaidOut}
 use Rattle.facet_json_layout.proofs.PieceSteps.{pieces-blank, pieces-spaces, pieces-none}
 
 -- ---- white space keeps pieces apart
 
-scalar-follows : (next : Sort) (s : Space) (spaces bytes : List ℕ) → parts sort.Scalar next s ≡ true → BeginsSpace s spaces →
+scalar-follows : (next : Sort) (s : Space) (spaces bytes : List ℕ) → keeps_apart sort.Scalar next s ≡ true → BeginsSpace s spaces →
     ((next ≡ sort.Scalar → ⊥) → ends_number bytes ≡ true) → ends_number (spaces ++ bytes) ≡ true
 scalar-follows next space.None spaces bytes apart begins ends =
-    let no : next ≡ sort.Scalar → ⊥ = λ is. let bad = ap (λ x. parts sort.Scalar x space.None) (sym is) ∙ apart in cc in
+    let no : next ≡ sort.Scalar → ⊥ = λ is. let bad = ap (λ x. keeps_apart sort.Scalar x space.None) (sym is) ∙ apart in cc in
     ap (λ l. ends_number (l ++ bytes)) begins ∙ ends no
 scalar-follows next space.Blank spaces bytes apart begins ends = ap (λ l. ends_number (l ++ bytes)) begins
 scalar-follows next space.Line spaces bytes apart begins ends = ap (λ l. ends_number (l ++ bytes)) begins.1
 scalar-follows next space.EmptyLine spaces bytes apart begins ends = ap (λ l. ends_number (l ++ bytes)) begins.1
 
-line-follows : (next : Sort) (s : Space) (spaces bytes : List ℕ) → parts sort.Line next s ≡ true → BeginsSpace s spaces →
+line-follows : (next : Sort) (s : Space) (spaces bytes : List ℕ) → keeps_apart sort.Line next s ≡ true → BeginsSpace s spaces →
     may_follow sort.Line (spaces ++ bytes) ≡ true
 line-follows next space.None spaces bytes apart begins = cc
 line-follows next space.Blank spaces bytes apart begins = cc
 line-follows next space.Line spaces bytes apart begins = ap (λ l. may_follow sort.Line (l ++ bytes)) begins.1
 line-follows next space.EmptyLine spaces bytes apart begins = ap (λ l. may_follow sort.Line (l ++ bytes)) begins.1
 
-space-follows : (last next : Sort) (s : Space) (spaces bytes : List ℕ) → parts last next s ≡ true → BeginsSpace s spaces →
+space-follows : (last next : Sort) (s : Space) (spaces bytes : List ℕ) → keeps_apart last next s ≡ true → BeginsSpace s spaces →
     ((next ≡ sort.Scalar → ⊥) → ends_number bytes ≡ true) → may_follow last (spaces ++ bytes) ≡ true
 space-follows sort.Scalar next s spaces bytes apart begins ends = scalar-follows next s spaces bytes apart begins ends
 space-follows sort.Line next s spaces bytes apart begins ends = line-follows next s spaces bytes apart begins
@@ -37,18 +37,18 @@ space-follows _ next s spaces bytes apart begins ends = refl
 
 -- ---- commas
 
-kept-piece : (s : Sort) (text : List ℕ) (ps : List Piece) → is_comma text ≡ is_comma_sort s → (is_comma_sort s && closing_next ps) ≡ false →
+kept-piece : (s : Sort) (text : List ℕ) (ps : List TextPiece) → is_comma text ≡ is_comma_sort s → (is_comma_sort s && closing_next ps) ≡ false →
     without_trailing_commas (piece_of s text ∷ ps) ≡ piece_of s text ∷ without_trailing_commas ps
 kept-piece sort.Block text ps same kept = refl
 kept-piece sort.Line text ps same kept = refl
 kept-piece s text ps same kept = rw (ap (λ b. b && closing_next ps) same ∙ kept) refl
 
-trailing-comma : (s : Sort) (text : List ℕ) (ps : List Piece) → is_comma text ≡ is_comma_sort s → is_comma_sort s ≡ true → closing_next ps ≡ true →
+trailing-comma : (s : Sort) (text : List ℕ) (ps : List TextPiece) → is_comma text ≡ is_comma_sort s → is_comma_sort s ≡ true → closing_next ps ≡ true →
     without_trailing_commas (piece_of s text ∷ ps) ≡ without_trailing_commas ps
 trailing-comma sort.Comma text ps same comma closing = rw (ap₂ (λ b c. b && c) same closing) refl
 trailing-comma _ text ps same comma closing = cc
 
-others-tokens : (s : Sort) (text : List ℕ) (ps : List Piece) → all_tokens (piece_of s text ∷ ps) ≡ true → all_tokens ps ≡ true
+others-tokens : (s : Sort) (text : List ℕ) (ps : List TextPiece) → all_tokens (piece_of s text ∷ ps) ≡ true → all_tokens ps ≡ true
 others-tokens sort.Block text ps e = e
 others-tokens sort.Line text ps e = e
 others-tokens _ text ps e = e
@@ -71,7 +71,7 @@ module _ (mode : Mode) (text : List ℕ) where
     tokens = ap all_tokens (sym same) ∙ laid.tokens;
   }
 
-  module _ (at end : ℕ) (last s : Sort) (out : List ℕ) (laid : IsLaidOut mode text at last out) (ahead : at ≤ end) (piece : IsPiece mode (drop at text) s (end - at)) where
+  module _ (at end : ℕ) (last s : Sort) (out : List ℕ) (laid : IsLaidOut mode text at last out) (ahead : at ≤ end) (piece : BeginsPiece mode (drop at text) s (end - at)) where
     -- the piece's bytes, and what is left after them
     abbrev bytes : List ℕ
     bytes = take (end - at) (drop at text)
@@ -103,14 +103,14 @@ module _ (mode : Mode) (text : List ℕ) where
     }
 
     -- Another piece is appended after white space.
-    pub laid-piece : (sp : Space) (mid new : List ℕ) → (is_comma_sort s && closing_next (pieces mode (drop end text))) ≡ false → parts last s sp ≡ true →
+    pub laid-piece : (sp : Space) (mid new : List ℕ) → (is_comma_sort s && closing_next (pieces mode (drop end text))) ≡ false → keeps_apart last s sp ≡ true →
         IsSpaced sp out mid → new ≡ mid ++ bytes → IsLaidOut mode text end s new
     laid-piece sp mid new kept apart spaced appended =
         let rest = pieces mode (drop end text) in
         let p = piece_of s bytes in
         let spaces = spaced.by.spaces in
         let done = laid.written ++ p ∷ [] in
-        let more : (ps : List Piece) → laid.written ++ (p ∷ ps) ≡ done ++ ps = λ ps. sym (append_assoc laid.written (p ∷ []) ps) in
+        let more : (ps : List TextPiece) → laid.written ++ (p ∷ ps) ≡ done ++ ps = λ ps. sym (append_assoc laid.written (p ∷ []) ps) in
         record {
           within = end-within;
           written = done;

@@ -2,7 +2,7 @@
 use Rattle.std.proofs.Common.{◌≡◌, ℕ, zero, suc, ◌≤◌, true, false, List, [], ◌∷◌, ◌++◌, length, drop, Some, None, refl, ap, arith}
 use Rattle.std.specs.Prelude.{slice_get}
 use Rattle.facet_json_document.specs.Tree.{Tree, no_trees, tree, no_pairs, pair}
-use Rattle.facet_json_layout.specs.Nodes.{Node, leaf, key, list, object, closing, inner, is_closing, is_key, items, members, value_of, values, value_at, value_in}
+use Rattle.facet_json_layout.specs.Nodes.{Node, leaf, key, list, object, closing, inner_len, is_closing_node, is_key, items, members, value_beginning, values, value_at, value_in}
 
 -- ---- lists
 
@@ -16,7 +16,7 @@ first-there (y ∷ xs) (suc at) x rest e = first-there xs at x rest e
 
 -- Where a node stands, it begins what is left.
 pub stands-there : (nodes : List Node) (at : ℕ) (n : Node) → slice_get nodes at ≡ Some n →
-    drop at (values nodes) ≡ (n, value_of n (drop (suc at) (values nodes))) ∷ drop (suc at) (values nodes)
+    drop at (values nodes) ≡ (n, value_beginning n (drop (suc at) (values nodes))) ∷ drop (suc at) (values nodes)
 unfolding values
 stands-there [] zero n e = cc
 stands-there [] (suc at) n e = cc
@@ -56,15 +56,15 @@ members-skip zero xs = refl
 members-skip (suc n) [] = refl
 members-skip (suc n) (x ∷ xs) = members-skip n xs
 
-pub items-end : (n : Node) (t : Tree) (xs : List (Node × Tree)) → is_closing n ≡ true → items 0 ((n, t) ∷ xs) ≡ no_trees
+pub items-end : (n : Node) (t : Tree) (xs : List (Node × Tree)) → is_closing_node n ≡ true → items 0 ((n, t) ∷ xs) ≡ no_trees
 items-end closing t xs e = refl
 items-end (leaf u) t xs e = cc
 items-end (key name) t xs e = cc
 items-end (list k) t xs e = cc
 items-end (object k) t xs e = cc
 
-pub items-first : (n : Node) (t : Tree) (xs : List (Node × Tree)) → is_closing n ≡ false →
-    items 0 ((n, t) ∷ xs) ≡ tree t (items 0 (drop (inner n) xs))
+pub items-first : (n : Node) (t : Tree) (xs : List (Node × Tree)) → is_closing_node n ≡ false →
+    items 0 ((n, t) ∷ xs) ≡ tree t (items 0 (drop (inner_len n) xs))
 items-first closing t xs e = cc
 items-first (leaf u) t xs e = refl
 items-first (key name) t xs e = refl
@@ -79,8 +79,8 @@ members-none (list k) t xs e = refl
 members-none (object k) t xs e = refl
 
 pub members-first : (name : List ℕ) (t : Tree) (n : Node) (u : Tree) (xs : List (Node × Tree)) →
-    members 0 ((key name, t) ∷ (n, u) ∷ xs) ≡ pair name u (members 0 (drop (inner n) xs))
-members-first name t n u xs = ap (pair name u) (members-skip (inner n) xs)
+    members 0 ((key name, t) ∷ (n, u) ∷ xs) ≡ pair name u (members 0 (drop (inner_len n) xs))
+members-first name t n u xs = ap (pair name u) (members-skip (inner_len n) xs)
 
 -- What follows a node's own nodes.
 pub values-past : (own after : List Node) → drop (length own) (values (own ++ after)) ≡ values after

@@ -9,7 +9,7 @@ use Rattle.facet_json_document.specs.Future.{Future, gives, finished, events_bef
 use Rattle.facet_json_document.specs.Tree.{Tree, Trees, no_trees, tree, Pairs, no_pairs, pair}
 use Rattle.facet_json_document.specs.Tree as trees
 use Rattle.facet_json_document.proofs.WalkComes.{events_before-append, events_before-same}
-use Rattle.facet_json_layout.specs.Nodes.{Node, leaf, key, list, object, closing, nothing, inner, is_closing, items, members, value_of, values, value_at}
+use Rattle.facet_json_layout.specs.Nodes.{Node, leaf, key, list, object, closing, nothing, inner_len, is_closing_node, items, members, value_beginning, values, value_at}
 use Rattle.facet_json_layout.specs.Inner.Building.{Nodes, added, all_added, also, begun, ended_by, none_yet}
 use Rattle.facet_json_layout.proofs.NodeTables.{items-first, members-first, values-past}
 
@@ -35,10 +35,10 @@ pub record BuildsValue (f : Future) (t : Tree) (rest : Future) : Type 0 where
   pub comes : f ≡ events_before events rest
   pub first : Node
   pub own : List Node
-  pub size : inner first ≡ length own
-  pub begins : is_closing first ≡ false
+  pub size : inner_len first ≡ length own
+  pub begins : is_closing_node first ≡ false
   pub builds : (s : Nodes) → all_added events s ≡ after s (first ∷ own)
-  pub tells : (more : List Node) → value_of first (values (own ++ more)) ≡ t
+  pub tells : (more : List Node) → value_beginning first (values (own ++ more)) ≡ t
 
 -- The events of what a container holds come, up to its end, and add these nodes to it.
 record BuildsHeld {X : Type 0} (container : ℕ → Node) (held : List (Node × Tree) → X) (f : Future) (x : X) (rest : Future) : Type 0 where
@@ -73,8 +73,8 @@ container-ends container s n own =
 
 -- What a container's events build, from those of what it holds.
 module _ {X : Type 0} (container : ℕ → Node) (held : List (Node × Tree) → X) (whole : X → Tree)
-    (size : (n : ℕ) → inner (container n) ≡ n) (begins : (n : ℕ) → is_closing (container n) ≡ false)
-    (tells : (n : ℕ) (later : List (Node × Tree)) → value_of (container n) later ≡ whole (held later)) where
+    (size : (n : ℕ) → inner_len (container n) ≡ n) (begins : (n : ℕ) → is_closing_node (container n) ≡ false)
+    (tells : (n : ℕ) (later : List (Node × Tree)) → value_beginning (container n) later ≡ whole (held later)) where
   builds-container : {p : Passed} {f rest : Future} {x : X} → ((s : Nodes) → added p.event.kind s ≡ begun (container 0) s) →
       BuildsHeld container held f x rest → BuildsValue (gives p f) (whole x) rest
   builds-container {p = p} opens h = record {
@@ -91,7 +91,7 @@ module _ {X : Type 0} (container : ℕ → Node) (held : List (Node × Tree) →
   }
 
 -- Behind a value's own nodes the others are left.
-left-behind : {f rest : Future} {t : Tree} (v : BuildsValue f t rest) (left : List Node) → drop (inner v.first) (values (v.own ++ left)) ≡ values left
+left-behind : {f rest : Future} {t : Tree} (v : BuildsValue f t rest) (left : List Node) → drop (inner_len v.first) (values (v.own ++ left)) ≡ values left
 left-behind v left = ap (λ n. drop n (values (v.own ++ left))) v.size ∙ values-past v.own left
 
 -- ---- all values
@@ -110,9 +110,9 @@ mutual
     builds = λ s. ap (λ kind. added kind s) k ∙ ap (λ o. also (leaf (unwrap_or o nothing)) s) e;
     tells = λ more. refl;
   }
-  builds-value (a_list p inner rest kind ts k tells) =
+  builds-value (a_list p inner_len rest kind ts k tells) =
       builds-container list (items 0) trees.list (λ n. refl) (λ n. refl) (λ n later. refl) (λ s. ap (λ kind. added kind s) k) (builds-items tells)
-  builds-value (an_object p inner rest kind ps k tells) =
+  builds-value (an_object p inner_len rest kind ps k tells) =
       builds-container object (members 0) trees.pairs (λ n. refl) (λ n. refl) (λ n later. refl) (λ s. ap (λ kind. added kind s) k) (builds-members tells)
 
   builds-items : {f rest : Future} {ts : Trees} → TellsItems f ts rest → BuildsItems f ts rest
@@ -138,7 +138,7 @@ mutual
         tells = λ more.
             let left = i.own ++ closing ∷ more in
             ap (λ l. items 0 (values l)) (append_assoc (v.first ∷ v.own) i.own (closing ∷ more))
-            ∙ items-first v.first (value_of v.first (values (v.own ++ left))) (values (v.own ++ left)) v.begins
+            ∙ items-first v.first (value_beginning v.first (values (v.own ++ left))) (values (v.own ++ left)) v.begins
             ∙ ap₂ tree (v.tells left) (ap (items 0) (left-behind v left) ∙ i.tells more);
       }
 
@@ -167,7 +167,7 @@ mutual
         tells = λ more.
             let left = m.own ++ closing ∷ more in
             ap (λ l. members 0 (values (named ∷ l))) (append_assoc (v.first ∷ v.own) m.own (closing ∷ more))
-            ∙ members-first (bytes_of name) nothing v.first (value_of v.first (values (v.own ++ left))) (values (v.own ++ left))
+            ∙ members-first (bytes_of name) nothing v.first (value_beginning v.first (values (v.own ++ left))) (values (v.own ++ left))
             ∙ ap₂ (pair (bytes_of name)) (v.tells left) (ap (members 0) (left-behind v left) ∙ m.tells more);
       }
 
@@ -179,4 +179,4 @@ built-tree f t tells events comes =
     let v = builds-value tells in
     let same : events ≡ v.events = events_before-same events v.events (sym comes ∙ v.comes) in
     ap (λ l. value_at (all_added l none_yet).nodes 0) same ∙ ap (λ (s : Nodes). value_at s.nodes 0) (v.builds none_yet)
-    ∙ ap (λ l. value_of v.first (values l)) (sym (append-nil v.own)) ∙ v.tells []
+    ∙ ap (λ l. value_beginning v.first (values l)) (sym (append-nil v.own)) ∙ v.tells []

@@ -24,9 +24,9 @@ use Rattle.facet_json_document.proofs.LongestPrefix.{input-comes}
 use Rattle.facet_json_document.proofs.MovesNext.{next-passes, next-over}
 use Rattle.facet_json_document.proofs.StrictRoot.{no_end, strict_input-comes, strict_document-comes}
 use Rattle.facet_json_document.proofs.WalkComes.{document-comes, events_before-append}
-use Rattle.facet_json_layout.specs.Formatted.{BreaksOff, BreaksOffWithin, as_ever, opens_beyond}
+use Rattle.facet_json_layout.specs.Formatted.{GetsStuck, GetsStuckWithin, as_ever, opens_beyond}
 use Rattle.facet_json_layout.specs.Nodes.{Node as DocumentNode, value_at}
-use Rattle.facet_json_layout.specs.Inner.Building.{Nodes, added, none_yet, Adds, AddsSome, AddsAll, Leaves, IsTooDeep, RefusesNext, stops, too_deep}
+use Rattle.facet_json_layout.specs.Inner.Building.{Nodes, added, none_yet, AddsNext, AddsSome, AddsAll, LeavesRoom, IsTooDeep, RefusesNext, stops, too_deep}
 use Rattle.facet_json_tree.specs.Inner.Beyond.{beyond, SameBeyond}
 use Rattle.facet_json_tree.proofs.BeyondEvents.{unlimited-none}
 use Rattle.facet_json_layout.proofs.EventsUp.{refused-next, stops-later}
@@ -35,7 +35,7 @@ use Rattle.facet_json_layout.proofs.NodesBuilt.{added-append, built-tree}
 -- ---- one call
 
 -- One event more.
-pub adds-more : (old now new : Now) (was is : Nodes) → AddsSome old now was → Adds true now new was is → AddsSome old new is
+pub adds-more : (old now new : Now) (was is : Nodes) → AddsSome old now was → AddsNext true now new was is → AddsSome old new is
 adds-more old now new was is some told =
     let one = next-passes now new told.0 told.1 in
     let p : Passed = record { event = told.0; last = one.last } in
@@ -46,7 +46,7 @@ adds-more old now new was is some told =
     }
 
 -- Then the end.
-pub adds-all : (old now new : Now) (was is : Nodes) → AddsSome old now was → Adds false now new was is → AddsAll old is.nodes
+pub adds-all : (old now new : Now) (was is : Nodes) → AddsSome old now was → AddsNext false now new was is → AddsAll old is.nodes
 adds-all old now new was is some told =
     let over = next-over now new told.0 in
     record {
@@ -58,7 +58,7 @@ adds-all old now new was is some told =
 -- Or a refusal.
 pub adds-refused : (limit room : Option ℕ) (old now new : Now) (was : Nodes) (r : Refusal) → AddsSome old now was →
     SameBeyond (future_of old) limit (future_of now) room → now.buffer ≡ old.buffer → now.cursor.refusal ≡ None →
-    LacksMemory r ⊎ RefusesNext room now new r → LacksMemory r ⊎ BreaksOffWithin limit old r
+    LacksMemory r ⊎ RefusesNext room now new r → LacksMemory r ⊎ GetsStuckWithin limit old r
 adds-refused limit room old now new was r some level same free (inl lacks) = inl lacks
 adds-refused limit room old now new was r some level same free (inr (too_deep span found so)) = inr (opens_beyond span (level.same ∙ found) so)
 adds-refused limit room old now new was r some level same free (inr (stops move)) = elim (refused-next now new r free move) [
@@ -68,12 +68,12 @@ adds-refused limit room old now new was r some level same free (inr (stops move)
 
 -- At the end no container was opened beyond the limit.
 pub adds-shallow : (limit room : Option ℕ) (old now new : Now) (was is : Nodes) → SameBeyond (future_of old) limit (future_of now) room →
-    Adds false now new was is → beyond (future_of old) limit ≡ None
+    AddsNext false now new was is → beyond (future_of old) limit ≡ None
 adds-shallow limit room old now new was is level told = level.same ∙ ap (λ f. beyond f room) (next-over now new told.0).over
 
 -- ---- one event within a depth
 
-pub leveled : (room left : Option ℕ) (old new : Now) (e : Event) → PassesNext old e new → Leaves room e.kind e.span left →
+pub leveled : (room left : Option ℕ) (old new : Now) (e : Event) → PassesNext old e new → LeavesRoom room e.kind e.span left →
     SameBeyond (future_of old) room (future_of new) left
 leveled room left old new e passed leaves =
     record { same = ap (λ f. beyond f room) passed.comes ∙ leaves (beyond (future_of new)) }
@@ -85,13 +85,13 @@ refused-deep room old new e r passed (inr deep) =
     inr (too_deep e.span (ap (λ f. beyond f room) passed.comes ∙ deep.opens (beyond (future_of new))) deep.so)
 
 -- Without a limit none is too deep.
-pub unlimited : (now : Now) (r : Refusal) → LacksMemory r ⊎ BreaksOffWithin None now r → LacksMemory r ⊎ BreaksOff now r
+pub unlimited : (now : Now) (r : Refusal) → LacksMemory r ⊎ GetsStuckWithin None now r → LacksMemory r ⊎ GetsStuck now r
 unlimited now r (inl lacks) = inl lacks
 unlimited now r (inr (as_ever b none)) = inr b
 unlimited now r (inr (opens_beyond span found so)) = let none = unlimited-none (future_of now) in cc
 
 -- The parser is not refused.
-pub adds-free : (some : Bool) (old new : Now) (was is : Nodes) → Adds some old new was is → new.cursor.refusal ≡ None
+pub adds-free : (some : Bool) (old new : Now) (was is : Nodes) → AddsNext some old new was is → new.cursor.refusal ≡ None
 adds-free true old new was is told = (next-passes old new told.0 told.1).free
 adds-free false old new was is told = (next-over old new told.0).free
 

@@ -15,8 +15,8 @@ use Rattle.facet_json_document.specs.Tree as trees
 use Rattle.facet_json_tree.specs.Content.{as_list, as_pairs}
 use Rattle.facet_json_tree.specs.Lookup.{item, item_at, member, last_member}
 use Rattle.facet_json_tree.specs.Same.{same_bytes}
-use Rattle.facet_json_layout.specs.Nodes.{Node, leaf, key, list, object, closing, nothing, inner, is_closing, is_leaf, is_key, is_list, is_object, items, members, value_of, values, value_at, value_in, trees_len, pairs_len, len, trees_list, pairs_list, node_view, nodes_view, value_view}
-use Rattle.facet_json_layout.specs.Inner.Looking.{HoldsOthers, of_nothing, of_list, of_object, IsLeaf, from, Stands, IsItem, IsMember}
+use Rattle.facet_json_layout.specs.Nodes.{Node, leaf, key, list, object, closing, nothing, inner_len, is_closing_node, is_leaf, is_key, is_list, is_object, items, members, value_beginning, values, value_at, value_in, trees_len, pairs_len, len, trees_list, pairs_list, node_view, nodes_view, value_view}
+use Rattle.facet_json_layout.specs.Inner.Looking.{HoldsOthers, of_nothing, of_list, of_object, IsLeaf, from, NodeStands, IsItem, MemberStands}
 use Rattle.facet_json_layout.specs.declared.document.node.Node.{Node as RustNode}
 use Rattle.facet_json_layout.specs.declared.document.node.Node.TheVariants as rust
 use Rattle.facet_json_layout.specs.Nodes.{items_left as held_items, members_left as held_members}
@@ -29,7 +29,7 @@ use Rattle.facet_json_layout.proofs.NodeTables.{stands-there, none-there, value-
 
 -- A node that is read there stands there.
 pub node-stands : (v : Value) (at : ℕ) (n : RustNode) → (at < length v.nodes.now) × ((d : RustNode) → n ≡ get_or v.nodes.now at d) →
-    Stands v at (node_view n)
+    NodeStands v at (node_view n)
 node-stands v at n h = record {
   within = h.0;
   here = stands-there (nodes_view v.nodes.now) at (node_view n) (slice_get-map node_view v.nodes.now at ∙ ap (option_map node_view) (slice_get-get_or v.nodes.now at n h.0 ∙ ap Some (sym (h.1 n))));
@@ -44,10 +44,10 @@ no-node v at h = none-there (nodes_view v.nodes.now) at (omega (arith, h, length
 pub empty-value : (v : Value) → from v v.index ≡ [] → value_view v ≡ nothing
 empty-value v e = ap value_in (no_value-there (nodes_view v.nodes.now) v.index e)
 
-pub value-stands : (v : Value) (n : Node) → Stands v v.index n → value_view v ≡ value_of n (from v (suc v.index))
+pub value-stands : (v : Value) (n : Node) → NodeStands v v.index n → value_view v ≡ value_beginning n (from v (suc v.index))
 value-stands v n s = value-there (nodes_view v.nodes.now) v.index n _ _ s.here
 
-not-leaf : (n : Node) (later : List (Node × Tree)) → is_leaf n ≡ false → HoldsOthers (value_of n later)
+not-leaf : (n : Node) (later : List (Node × Tree)) → is_leaf n ≡ false → HoldsOthers (value_beginning n later)
 not-leaf (leaf t) later e = cc
 not-leaf (key name) later e = of_nothing
 not-leaf (list k) later e = of_list (items 0 later)
@@ -61,9 +61,9 @@ no-leaf v e = subst HoldsOthers (sym (empty-value v e)) (of_nothing)
 abbrev pub TellsLeaf : Node → Option (Bor ScalarValue) → Type 0
 TellsLeaf n answer = MatchOption answer (is_leaf n ≡ false) (λ s. n ≡ leaf (unwrap_or (tree_of_scalar (scalar_value_of s.now)) nothing))
 
-pub leaf-told : (v : Value) (n : Node) (answer : Option (Bor ScalarValue)) → Stands v v.index n → TellsLeaf n answer → IsLeaf (value_view v) answer
+pub leaf-told : (v : Value) (n : Node) (answer : Option (Bor ScalarValue)) → NodeStands v v.index n → TellsLeaf n answer → IsLeaf (value_view v) answer
 leaf-told v n None s h = subst HoldsOthers (sym (value-stands v n s)) (not-leaf n (from v (suc v.index)) h)
-leaf-told v n (Some x) s h = value-stands v n s ∙ ap (λ m. value_of m (from v (suc v.index))) h
+leaf-told v n (Some x) s h = value-stands v n s ∙ ap (λ m. value_beginning m (from v (suc v.index))) h
 
 -- ---- what holds others
 
@@ -75,28 +75,28 @@ scalar-pairs : (s : Scalar) → as_pairs (unwrap_or (tree_of_scalar s) nothing) 
 scalar-pairs event.null = refl
 scalar-pairs _ = refl
 
-other-list : (n : RustNode) (later : List (Node × Tree)) → is_list (node_view n) ≡ false → as_list (value_of (node_view n) later) ≡ None
+other-list : (n : RustNode) (later : List (Node × Tree)) → is_list (node_view n) ≡ false → as_list (value_beginning (node_view n) later) ≡ None
 other-list (rust.Leaf s) later e = scalar-list (scalar_value_of s)
 other-list (rust.Key name) later e = refl
 other-list (rust.List k) later e = cc
 other-list (rust.Object k) later e = refl
 other-list rust.End later e = refl
 
-other-pairs : (n : RustNode) (later : List (Node × Tree)) → is_object (node_view n) ≡ false → as_pairs (value_of (node_view n) later) ≡ None
+other-pairs : (n : RustNode) (later : List (Node × Tree)) → is_object (node_view n) ≡ false → as_pairs (value_beginning (node_view n) later) ≡ None
 other-pairs (rust.Leaf s) later e = scalar-pairs (scalar_value_of s)
 other-pairs (rust.Key name) later e = refl
 other-pairs (rust.List k) later e = refl
 other-pairs (rust.Object k) later e = cc
 other-pairs rust.End later e = refl
 
-a-list : (n : Node) (later : List (Node × Tree)) → is_list n ≡ true → value_of n later ≡ trees.list (items 0 later)
+a-list : (n : Node) (later : List (Node × Tree)) → is_list n ≡ true → value_beginning n later ≡ trees.list (items 0 later)
 a-list (list k) later e = refl
 a-list (leaf t) later e = cc
 a-list (key name) later e = cc
 a-list (object k) later e = cc
 a-list closing later e = cc
 
-an-object : (n : Node) (later : List (Node × Tree)) → is_object n ≡ true → value_of n later ≡ trees.pairs (members 0 later)
+an-object : (n : Node) (later : List (Node × Tree)) → is_object n ≡ true → value_beginning n later ≡ trees.pairs (members 0 later)
 an-object (object k) later e = refl
 an-object (leaf t) later e = cc
 an-object (key name) later e = cc
@@ -104,16 +104,16 @@ an-object (list k) later e = cc
 an-object closing later e = cc
 
 -- The value at a list's node is a list, at an object's an object, and at others neither.
-pub list-of : (v : Value) (n : Node) → Stands v v.index n → is_list n ≡ true → value_view v ≡ trees.list (items 0 (from v (suc v.index)))
+pub list-of : (v : Value) (n : Node) → NodeStands v v.index n → is_list n ≡ true → value_view v ≡ trees.list (items 0 (from v (suc v.index)))
 list-of v n s e = value-stands v n s ∙ a-list n (from v (suc v.index)) e
 
-pub object-of : (v : Value) (n : Node) → Stands v v.index n → is_object n ≡ true → value_view v ≡ trees.pairs (members 0 (from v (suc v.index)))
+pub object-of : (v : Value) (n : Node) → NodeStands v v.index n → is_object n ≡ true → value_view v ≡ trees.pairs (members 0 (from v (suc v.index)))
 object-of v n s e = value-stands v n s ∙ an-object n (from v (suc v.index)) e
 
-pub no-list : (v : Value) (n : RustNode) → Stands v v.index (node_view n) → is_list (node_view n) ≡ false → as_list (value_view v) ≡ None
+pub no-list : (v : Value) (n : RustNode) → NodeStands v v.index (node_view n) → is_list (node_view n) ≡ false → as_list (value_view v) ≡ None
 no-list v n s e = ap as_list (value-stands v (node_view n) s) ∙ other-list n (from v (suc v.index)) e
 
-pub no-pairs : (v : Value) (n : RustNode) → Stands v v.index (node_view n) → is_object (node_view n) ≡ false → as_pairs (value_view v) ≡ None
+pub no-pairs : (v : Value) (n : RustNode) → NodeStands v v.index (node_view n) → is_object (node_view n) ≡ false → as_pairs (value_view v) ≡ None
 no-pairs v n s e = ap as_pairs (value-stands v (node_view n) s) ∙ other-pairs n (from v (suc v.index)) e
 
 no_list-item : (t : Tree) (i : ℕ) → as_list t ≡ None → item i t ≡ None
@@ -130,21 +130,21 @@ neither-len (trees.pairs ps) e f = cc
 neither-len _ e f = refl
 
 -- Only a list has items, only an object members, and no other value a number of them.
-pub no-items : (v : Value) (n : RustNode) (i : ℕ) → Stands v v.index (node_view n) → is_list (node_view n) ≡ false → item i (value_view v) ≡ None
+pub no-items : (v : Value) (n : RustNode) (i : ℕ) → NodeStands v v.index (node_view n) → is_list (node_view n) ≡ false → item i (value_view v) ≡ None
 no-items v n i s e = no_list-item (value_view v) i (no-list v n s e)
 
-pub no-members : (v : Value) (n : RustNode) (name : List ℕ) → Stands v v.index (node_view n) → is_object (node_view n) ≡ false →
+pub no-members : (v : Value) (n : RustNode) (name : List ℕ) → NodeStands v v.index (node_view n) → is_object (node_view n) ≡ false →
     member name (value_view v) ≡ None
 no-members v n name s e = no_object-member (value_view v) name (no-pairs v n s e)
 
-pub no-len : (v : Value) (n : RustNode) → Stands v v.index (node_view n) → is_list (node_view n) ≡ false → is_object (node_view n) ≡ false →
+pub no-len : (v : Value) (n : RustNode) → NodeStands v v.index (node_view n) → is_list (node_view n) ≡ false → is_object (node_view n) ≡ false →
     len (value_view v) ≡ None
 no-len v n s e f = neither-len (value_view v) (no-list v n s e) (no-pairs v n s f)
 
 -- ---- items
 
 -- Where no end stands, an item begins.
-pub item-begins : (v w : Value) (at : ℕ) (n : Node) → Stands v at n → is_closing n ≡ false → w.nodes.now ≡ v.nodes.now → w.index ≡ at →
+pub item-begins : (v w : Value) (at : ℕ) (n : Node) → NodeStands v at n → is_closing_node n ≡ false → w.nodes.now ≡ v.nodes.now → w.index ≡ at →
     Some (value_view w) ≡ item_at 0 (items 0 (from v at))
 item-begins v w at n s c nodes index =
     let view : value_view w ≡ value_at (nodes_view v.nodes.now) at = ap₂ (λ l i. value_at (nodes_view l) i) nodes index in
@@ -152,10 +152,10 @@ item-begins v w at n s c nodes index =
     ∙ sym (ap (λ l. item_at 0 (items 0 l)) s.here ∙ ap (item_at 0) (items-first n _ (from v (suc at)) c))
 
 -- The items behind it begin behind its nodes.
-pub item-stands : (v : Value) (at to : ℕ) (n : Node) → Stands v at n → is_closing n ≡ false → from v to ≡ drop (inner n) (from v (suc at)) →
+pub item-stands : (v : Value) (at to : ℕ) (n : Node) → NodeStands v at n → is_closing_node n ≡ false → from v to ≡ drop (inner_len n) (from v (suc at)) →
     at < to → to ≤ length v.nodes.now → IsItem v at to
 item-stands v at to n s c e further within = record {
-  are = ap (items 0) s.here ∙ items-first n (value_of n (from v (suc at))) (from v (suc at)) c
+  are = ap (items 0) s.here ∙ items-first n (value_beginning n (from v (suc at))) (from v (suc at)) c
       ∙ ap₂ (λ t l. tree t (items 0 l)) (sym (value-there (nodes_view v.nodes.now) at n _ _ s.here)) (sym e);
   further = further;
   within = within;
@@ -188,13 +188,13 @@ past-end v at k h =
 -- ---- members
 
 -- A key and a value behind it are a member.
-pub member-stands : (v : Value) (at behind to : ℕ) (m n : Node) (name : List ℕ) → Stands v at m → m ≡ key name → behind ≡ suc at → Stands v behind n →
-    from v to ≡ drop (inner n) (from v (suc behind)) → behind < to → to ≤ length v.nodes.now → IsMember v at name to
+pub member-stands : (v : Value) (at behind to : ℕ) (m n : Node) (name : List ℕ) → NodeStands v at m → m ≡ key name → behind ≡ suc at → NodeStands v behind n →
+    from v to ≡ drop (inner_len n) (from v (suc behind)) → behind < to → to ≤ length v.nodes.now → MemberStands v at name to
 member-stands v at behind to m n name first is b second left further within =
     let rest = from v (suc behind) in
-    let there : from v (suc at) ≡ (n, value_of n rest) ∷ rest = ap (from v) (sym b) ∙ second.here in
+    let there : from v (suc at) ≡ (n, value_beginning n rest) ∷ rest = ap (from v) (sym b) ∙ second.here in
     record {
-      are = ap (members 0) first.here ∙ ap (λ k. members 0 ((k, value_of k (from v (suc at))) ∷ from v (suc at))) is
+      are = ap (members 0) first.here ∙ ap (λ k. members 0 ((k, value_beginning k (from v (suc at))) ∷ from v (suc at))) is
           ∙ ap (λ l. members 0 ((key name, nothing) ∷ l)) there ∙ members-first name nothing n _ rest
           ∙ ap₂ (pair name) (sym (value-there (nodes_view v.nodes.now) (suc at) n _ rest there)) (ap (members 0) (sym left));
       further = omega (arith, further, b);
@@ -202,7 +202,7 @@ member-stands v at behind to m n name first is b second left further within =
     }
 
 -- No key, no member.
-pub no-member : (v : Value) (at : ℕ) (n : Node) → Stands v at n → is_key n ≡ false → members 0 (from v at) ≡ no_pairs
+pub no-member : (v : Value) (at : ℕ) (n : Node) → NodeStands v at n → is_key n ≡ false → members 0 (from v at) ≡ no_pairs
 no-member v at n s e = ap (members 0) s.here ∙ members-none n _ (from v (suc at)) e
 
 -- A member that is found counts, but for one behind it.
@@ -216,7 +216,7 @@ named true behind t before e = keep behind t before
 named false behind t before e = cc
 
 pub member-found : (v w : Value) (at behind to : ℕ) (name wanted : List ℕ) (last before : Option Tree) →
-    last ≡ option_or (last_member wanted (members 0 (from v at))) before → IsMember v at name to → true ≡ same_bytes name wanted →
+    last ≡ option_or (last_member wanted (members 0 (from v at))) before → MemberStands v at name to → true ≡ same_bytes name wanted →
     w.nodes.now ≡ v.nodes.now → w.index ≡ behind → behind ≡ suc at →
     last ≡ option_or (last_member wanted (members 0 (from v to))) (Some (value_view w))
 member-found v w at behind to name wanted last before e m same nodes index b =
@@ -235,7 +235,7 @@ item-left v at to i index =
     ap trees_list i.are ∙ ap (λ k. value_at (nodes_view v.nodes.now) k ∷ trees_list (items 0 (from v to))) (sym index)
 
 -- What is left of the members.
-pub member-left : (v w : Value) (at to behind : ℕ) (name : List ℕ) → IsMember v at name to → w.nodes.now ≡ v.nodes.now → w.index ≡ behind → behind ≡ suc at →
+pub member-left : (v w : Value) (at to behind : ℕ) (name : List ℕ) → MemberStands v at name to → w.nodes.now ≡ v.nodes.now → w.index ≡ behind → behind ≡ suc at →
     pairs_list (members 0 (from v at)) ≡ (name, value_view w) ∷ pairs_list (members 0 (from v to))
 member-left v w at to behind name m nodes index b =
     ap pairs_list m.are

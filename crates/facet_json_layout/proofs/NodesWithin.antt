@@ -20,7 +20,7 @@ use Rattle.facet_json_tree.specs.Inner.Beyond.{beyond}
 use Rattle.facet_json_tree.proofs.BeyondEvents.{stuck-beyond}
 use Rattle.facet_json_tree.proofs.DepthOfNodes.{none-shallow, shallow-none}
 use Rattle.facet_json_tree.proofs.WalkWithin.{comes-beyond}
-use Rattle.facet_json_layout.specs.Formatted.{BreaksOff, BreaksOffWithin, as_ever, opens_beyond}
+use Rattle.facet_json_layout.specs.Formatted.{GetsStuck, GetsStuckWithin, as_ever, opens_beyond}
 use Rattle.facet_json_layout.specs.Nodes.{Node as DocumentNode, value_at}
 use Rattle.facet_json_layout.specs.Inner.Building.{AddsAll}
 use Rattle.facet_json_layout.proofs.NodesRead.{value-read, strict-read}
@@ -32,12 +32,12 @@ module _ (depth : ℕ) (now : Now) (root : Node) (same : beyond (future_of now) 
   no-deeper : beyond (future_of now) (Some depth) ≡ None → (s : Span) → first_beyond depth root ≡ Some s → ⊥
   no-deeper none s e = cc
 
-  shallow-only : (r : Refusal) → LacksMemory r ⊎ BreaksOffWithin (Some depth) now r → depth_of root ≤ depth → LacksMemory r ⊎ BreaksOff now r
+  shallow-only : (r : Refusal) → LacksMemory r ⊎ GetsStuckWithin (Some depth) now r → depth_of root ≤ depth → LacksMemory r ⊎ GetsStuck now r
   shallow-only r (inl lacks) h = inl lacks
   shallow-only r (inr (as_ever b none)) h = inr b
   shallow-only r (inr (opens_beyond span found so)) h = let none = shallow-none depth root h in cc
 
-  deeper-refused : (r : Refusal) → LacksMemory r ⊎ BreaksOffWithin (Some depth) now r → (s : Span) → first_beyond depth root ≡ Some s →
+  deeper-refused : (r : Refusal) → LacksMemory r ⊎ GetsStuckWithin (Some depth) now r → (s : Span) → first_beyond depth root ≡ Some s →
       LacksMemory r ⊎ (r ≡ too_deep_at s)
   deeper-refused r (inl lacks) s e = inl lacks
   deeper-refused r (inr (as_ever b none)) s e = cc
@@ -60,17 +60,17 @@ module _ (text : List ℕ) (mode : Mode) (depth : ℕ) where
   none-deeper none root value s d = no-deeper depth (fresh text mode) root (same root value d) none s
 
   -- One that nests no deeper is refused for lack of memory alone,
-  pub only-lacks : (r : Refusal) → LacksMemory r ⊎ BreaksOffWithin (Some depth) (fresh text mode) r → (root : Node) (value : Tree) →
+  pub only-lacks : (r : Refusal) → LacksMemory r ⊎ GetsStuckWithin (Some depth) (fresh text mode) r → (root : Node) (value : Tree) →
       IsDocument text mode root value → depth_of root ≤ depth → LacksMemory r
   only-lacks r refused root value d h =
       document-lacks text mode r (root, value, d) (breaks-off text mode r (shallow-only depth (fresh text mode) root (same root value d) r refused h))
 
   -- and one that nests deeper for its first bracket beyond.
-  pub deeper-is_refused : (r : Refusal) → LacksMemory r ⊎ BreaksOffWithin (Some depth) (fresh text mode) r → (root : Node) (value : Tree) (s : Span) →
+  pub deeper-is_refused : (r : Refusal) → LacksMemory r ⊎ GetsStuckWithin (Some depth) (fresh text mode) r → (root : Node) (value : Tree) (s : Span) →
       IsDocument text mode root value → first_beyond depth root ≡ Some s → LacksMemory r ⊎ (r ≡ too_deep_at s)
   deeper-is_refused r refused root value s d = deeper-refused depth (fresh text mode) root (same root value d) r refused s
 
-  so_by : (r : Refusal) → BreaksOffWithin (Some depth) (fresh text mode) r → RootComes text mode → RefusesWithin text mode depth r
+  so_by : (r : Refusal) → GetsStuckWithin (Some depth) (fresh text mode) r → RootComes text mode → RefusesWithin text mode depth r
   so_by r (as_ever b none) (document_comes node tree d comes) = absurd (no_end text b.events (walk text node) b.place b.rest (sym b.comes ∙ comes))
   so_by r (opens_beyond span found so) (document_comes node tree d comes) = in_document node tree span d (sym (same node tree d) ∙ found) so
   so_by r (as_ever b none) (prefix_comes events here left front comes) =
@@ -82,7 +82,7 @@ module _ (text : List ℕ) (mode : Mode) (depth : ℕ) where
       in_prefix events here left span front (sym first ∙ found) so
 
   -- What is refused is so refused within the depth.
-  pub refused-so : (r : Refusal) → LacksMemory r ⊎ BreaksOffWithin (Some depth) (fresh text mode) r → LacksMemory r ⊎ RefusesWithin text mode depth r
+  pub refused-so : (r : Refusal) → LacksMemory r ⊎ GetsStuckWithin (Some depth) (fresh text mode) r → LacksMemory r ⊎ RefusesWithin text mode depth r
   refused-so r (inl lacks) = inl lacks
   refused-so r (inr b) = inr (so_by r b (input-comes text mode))
 
@@ -104,11 +104,11 @@ module _ (text : List ℕ) (depth : ℕ) where
       IsStrictDocument text root value → first_beyond depth root ≡ Some s → ⊥
   strict_none-deeper none root value s d = no-deeper depth start root (strictly root value d) none s
 
-  pub strict_only-lacks : (r : Refusal) → LacksMemory r ⊎ BreaksOffWithin (Some depth) start r → (root : Node) (value : Tree) →
+  pub strict_only-lacks : (r : Refusal) → LacksMemory r ⊎ GetsStuckWithin (Some depth) start r → (root : Node) (value : Tree) →
       IsStrictDocument text root value → depth_of root ≤ depth → LacksMemory r
   strict_only-lacks r refused root value d h =
       strict-lacks text r (root, value, d) (shallow-only depth start root (strictly root value d) r refused h)
 
-  pub strict_deeper-is_refused : (r : Refusal) → LacksMemory r ⊎ BreaksOffWithin (Some depth) start r → (root : Node) (value : Tree) (s : Span) →
+  pub strict_deeper-is_refused : (r : Refusal) → LacksMemory r ⊎ GetsStuckWithin (Some depth) start r → (root : Node) (value : Tree) (s : Span) →
       IsStrictDocument text root value → first_beyond depth root ≡ Some s → LacksMemory r ⊎ (r ≡ too_deep_at s)
   strict_deeper-is_refused r refused root value s d = deeper-refused depth start root (strictly root value d) r refused s

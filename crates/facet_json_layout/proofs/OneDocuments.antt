@@ -28,7 +28,7 @@ use Rattle.facet_json_document.proofs.Spelling.OneSpelling.{one_spelling}
 use Rattle.facet_json_document.proofs.StrictRoot.{no_end, strict_input-comes, strict_document-comes}
 use Rattle.facet_json_document.proofs.WalkComes.{events_before-same}
 use Rattle.facet_json_core.specs.Reading.{LacksMemory}
-use Rattle.facet_json_layout.specs.Formatted.{HasDocument, HasOneDocument, RefusesOne, no_document, more_follows, BreaksOff, LacksOrBreaksOff}
+use Rattle.facet_json_layout.specs.Formatted.{BeginsDocument, HasOneDocument, RefusesOne, no_document, more_follows, GetsStuck, LacksOrGetsStuck}
 use Rattle.facet_json_layout.specs.Inner.Checking.{last_after, PassesUp, IsStuckBehind}
 use Rattle.facet_json_layout.proofs.EventsUp.{last-append}
 
@@ -71,25 +71,25 @@ module _ (text : List ℕ) (mode : Mode) where
   pub document-passed : (last : Span) → PassesUp (fresh text mode) last → PassesDocument last
   document-passed last up = up_by last up (input-comes text mode)
 
-  off_by : (r : Refusal) → BreaksOff (fresh text mode) r → RootComes text mode → Refuses text mode r
+  off_by : (r : Refusal) → GetsStuck (fresh text mode) r → RootComes text mode → Refuses text mode r
   off_by r b (document_comes node tree d comes) = absurd (no_end text b.events (walk text node) b.place b.rest (sym b.comes ∙ comes))
   off_by r b (prefix_comes events here left front comes) =
       let same = stuck-same b.events events b.place here b.rest left (sym b.comes ∙ comes) in
       record { events = events; after = record { here = here; rest = left; prefix = front; stuck = rw (← same.0, ← same.1) b.so } }
 
   -- What breaks off is refused so.
-  pub breaks-off : (r : Refusal) → LacksMemory r ⊎ BreaksOff (fresh text mode) r → LacksMemory r ⊎ Refuses text mode r
+  pub breaks-off : (r : Refusal) → LacksMemory r ⊎ GetsStuck (fresh text mode) r → LacksMemory r ⊎ Refuses text mode r
   breaks-off r (inl lacks) = inl lacks
   breaks-off r (inr b) = inr (off_by r b (input-comes text mode))
 
   -- The text begins with a document.
-  pub has-document : (last : Span) → PassesUp (fresh text mode) last → HasDocument text mode
+  pub has-document : (last : Span) → PassesUp (fresh text mode) last → BeginsDocument text mode
   has-document last up =
       let d = document-passed last up in
       (d.root, d.tree, record { rest = tokens_from text mode (stop last); reads = d.reads })
 
   -- Where it does, only memory is lacked.
-  pub document-lacks : (r : Refusal) → HasDocument text mode → LacksMemory r ⊎ Refuses text mode r → LacksMemory r
+  pub document-lacks : (r : Refusal) → BeginsDocument text mode → LacksMemory r ⊎ Refuses text mode r → LacksMemory r
   document-lacks r d (inl lacks) = lacks
   document-lacks r d (inr refuses) = absurd (refused_has_none text mode r d.0 d.1 refuses d.2)
 
@@ -133,10 +133,10 @@ module _ (text : List ℕ) where
   pub strict-passed : (last : Span) → PassesUp (fresh_in text (strict plain)) last → IsStrict text
   strict-passed last up = strict_by last up (strict_input-comes text)
 
-  strict-not_refused : (r : Refusal) → IsStrict text → BreaksOff (fresh_in text (strict plain)) r → ⊥
+  strict-not_refused : (r : Refusal) → IsStrict text → GetsStuck (fresh_in text (strict plain)) r → ⊥
   strict-not_refused r (root, tree, d) b =
       no_end text b.events (walk text root) b.place b.rest (sym b.comes ∙ strict_document-comes text root tree d)
 
-  pub strict-lacks : (r : Refusal) → IsStrict text → LacksOrBreaksOff text r → LacksMemory r
+  pub strict-lacks : (r : Refusal) → IsStrict text → LacksOrGetsStuck text r → LacksMemory r
   strict-lacks r one (inl lacks) = lacks
   strict-lacks r one (inr b) = absurd (strict-not_refused r one b)

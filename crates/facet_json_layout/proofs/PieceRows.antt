@@ -3,9 +3,9 @@ use Rattle.std.proofs.Common.{◌≡◌, List, [], ◌∷◌, refl, codes}
 use Rattle.facet_format.specs.NumberParts.{parts}
 use Rattle.facet_json_token.specs.Cut.{start_of, cut_here}
 use Rattle.facet_json_token.specs.Gap.{plain, jsonc}
-use Rattle.facet_json_layout.specs.Pieces.{Piece, token_text, comment, no_token, pieces_from, pieces, without_trailing_commas}
+use Rattle.facet_json_layout.specs.Pieces.{TextPiece, token_text, comment, no_token, pieces_from, pieces, without_trailing_commas}
 
-abbrev of : List Piece
+abbrev of : List TextPiece
 of = token_text (codes "[") ∷ token_text (codes "1") ∷ token_text (codes ",") ∷ comment (codes "// a") ∷ token_text (codes "]") ∷ []
 
 -- A line comment ends before the white space at its line's end, and a comma before it trails.

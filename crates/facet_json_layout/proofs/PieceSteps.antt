@@ -8,7 +8,7 @@ use Rattle.facet_json_token.specs.GapLen.{piece_len}
 use Rattle.facet_json_token.specs.Cut.{Cut, nothing_left, token, fault, cut_here}
 use Rattle.facet_json_token.proofs.Gaps.{piece_len-blank}
 use Rattle.facet_json_document.specs.RfcText.{AreSpaces}
-use Rattle.facet_json_layout.specs.Pieces.{Piece, token_text, no_token, trimmed, with_comment, pieces_from, pieces}
+use Rattle.facet_json_layout.specs.Pieces.{TextPiece, token_text, no_token, trimmed, with_comment, pieces_from, pieces}
 
 -- After the bytes of a piece stand the pieces of what is left.
 pub pieces-skip : (mode : Mode) (n : ℕ) (bytes : List ℕ) → pieces_from mode n bytes ≡ pieces mode (drop n bytes)
@@ -18,13 +18,13 @@ pieces-skip mode (suc n) [] = refl
 pieces-skip mode (suc n) (b ∷ bytes) = pieces-skip mode n bytes
 
 -- what follows by what is cut, where no piece of a gap stands
-abbrev pub after_cut : Mode → List ℕ → List ℕ → Cut → List Piece
+abbrev pub after_cut : Mode → List ℕ → List ℕ → Cut → List TextPiece
 after_cut mode all bytes (token t) = token_text (take t.span.len all) ∷ pieces_from mode (t.span.len - 1) bytes
 after_cut mode all bytes (fault f) = no_token ∷ []
 after_cut mode all bytes nothing_left = no_token ∷ []
 
 -- what follows by how long the piece of a gap is that stands first
-abbrev pub after_gap : Mode → List ℕ → List ℕ → ℕ → List Piece
+abbrev pub after_gap : Mode → List ℕ → List ℕ → ℕ → List TextPiece
 after_gap mode all bytes zero = after_cut mode all bytes (cut_here mode 0 all)
 after_gap mode all bytes (suc inside) = with_comment (trimmed (take (suc inside) all)) (pieces_from mode inside bytes)
 

@@ -22,7 +22,7 @@ use Rattle.facet_json_token.proofs.Offsets.{drop-at_byte, option_map-none}
 use Rattle.facet_json_reader.proofs.CutsAtPlaces.{TokenAnswer, the_end, a_token, token_answer-is}
 use Rattle.facet_json_layout.specs.declared.pieces.Sort.TheVariants as sort
 use Rattle.facet_json_layout.specs.Pieces.{trimmed, pieces, closing_next}
-use Rattle.facet_json_layout.specs.Inner.Layout.{sort_by, IsPiece, all_tokens}
+use Rattle.facet_json_layout.specs.Inner.Layout.{sort_by, BeginsPiece, all_tokens}
 use Rattle.facet_json_layout.proofs.PieceShapes.{no_gap}
 use Rattle.facet_json_layout.proofs.PiecesFound.{token-found, nothing-cut, nothing-found, closes_first, closing-first, block-piece, ended-line, last-line}
 
@@ -44,22 +44,22 @@ module _ (mode : Mode) (text : List ℕ) (at b : ℕ) (first : slice_get text at
   within = omega (arith, slice_get_within text at b first)
 
   piece_by : (t : SpannedToken) (c : Cut) → cut text at mode ≡ c → TokenAnswer t.span t.token c → (t.token ≡ code.Eof → ⊥) →
-      (at + t.span.len ≤ length text) × IsPiece mode (drop at text) (sort_by b) t.span.len
+      (at + t.span.len ≤ length text) × BeginsPiece mode (drop at text) (sort_by b) t.span.len
   piece_by t _ e (the_end is) not_end = absurd (not_end is)
   piece_by t _ e (a_token kind k) not_end =
       let fits : TokenFits text at (record { kind = kind; span = span_of t.span }) = cut-token_fits text at mode _ within e in
       let piece = token-found mode at b (drop (at + 1) text) (record { kind = kind; span = span_of t.span }) no_space no_slash (sym cut-there ∙ e) (omega (arith, fits.some)) in
-      (omega (arith, fits.behind, fits.within), subst (λ l. IsPiece mode l (sort_by b) t.span.len) (sym here) piece)
+      (omega (arith, fits.behind, fits.within), subst (λ l. BeginsPiece mode l (sort_by b) t.span.len) (sym here) piece)
 
   pub piece-at : (t : SpannedToken) → cut_of (Ok t) ≡ Some (cut text at mode) → (t.token ≡ code.Eof → ⊥) →
-      (at + t.span.len ≤ length text) × IsPiece mode (drop at text) (sort_by b) t.span.len
+      (at + t.span.len ≤ length text) × BeginsPiece mode (drop at text) (sort_by b) t.span.len
   piece-at t e not_end = piece_by t _ refl (token_answer-is t.span t.token _ e) not_end
 
   pub piece-there : (t : SpannedToken) → cut_of (Ok t) ≡ Some (cut text at mode) → (t.token ≡ code.Eof → ⊥) →
-      (at ≤ at + t.span.len) × IsPiece mode (drop at text) (sort_by b) (at + t.span.len - at)
+      (at ≤ at + t.span.len) × BeginsPiece mode (drop at text) (sort_by b) (at + t.span.len - at)
   piece-there t e not_end =
       let size : t.span.len ≡ at + t.span.len - at = omega arith in
-      (omega arith, subst (IsPiece mode (drop at text) (sort_by b)) size (piece-at t e not_end).1)
+      (omega arith, subst (BeginsPiece mode (drop at text) (sort_by b)) size (piece-at t e not_end).1)
 
   -- Where no token is cut, not all tokens are.
   pub nothing-at : ((t : Token) → cut text at mode ≡ token t → ⊥) → all_tokens (pieces mode (drop at text)) ≡ true → pieces mode (drop at text) ≡ []
@@ -93,50 +93,50 @@ after-mark text at b first second =
 
 module _ (text : List ℕ) (at : ℕ) (first : slice_get text at ≡ Some slash) where
   pub block-at : slice_get text (at + 1) ≡ Some star → (end : ℕ) → Some end ≡ option_map (λ n. (at + 2) + n) (through_block_end (drop (at + 2) text)) →
-      (at ≤ end) × IsPiece jsonc (drop at text) sort.Block (end - at)
+      (at ≤ end) × BeginsPiece jsonc (drop at text) sort.Block (end - at)
   block-at second end e = by (through_block_end (drop (at + 2) text)) refl e
     where
       by : (o : Option ℕ) → through_block_end (drop (at + 2) text) ≡ o → Some end ≡ option_map (λ n. (at + 2) + n) o →
-          (at ≤ end) × IsPiece jsonc (drop at text) sort.Block (end - at)
+          (at ≤ end) × BeginsPiece jsonc (drop at text) sort.Block (end - at)
       by None is f = cc
       by (Some m) is f =
           let there : end ≡ (at + 2) + m = cc in
           let size : suc (suc m) ≡ end - at = omega (arith, there) in (
             omega (arith, there),
-            subst (λ n. IsPiece jsonc (drop at text) sort.Block n) size
-                (subst (λ l. IsPiece jsonc l sort.Block (suc (suc m))) (sym (after-mark text at star first second)) (block-piece (drop (at + 2) text) m is)),
+            subst (λ n. BeginsPiece jsonc (drop at text) sort.Block n) size
+                (subst (λ l. BeginsPiece jsonc l sort.Block (suc (suc m))) (sym (after-mark text at star first second)) (block-piece (drop (at + 2) text) m is)),
           )
 
   -- A line comment whose text ends there.
-  line_by : slice_get text (at + 1) ≡ Some slash → (end stops : ℕ) → IsPiece jsonc (drop at text) sort.Line (length (trimmed (take (stops - at) (drop at text)))) →
-      take (end - at) (drop at text) ≡ trimmed (take (stops - at) (drop at text)) → end ≤ length text → IsPiece jsonc (drop at text) sort.Line (end - at)
+  line_by : slice_get text (at + 1) ≡ Some slash → (end stops : ℕ) → BeginsPiece jsonc (drop at text) sort.Line (length (trimmed (take (stops - at) (drop at text)))) →
+      take (end - at) (drop at text) ≡ trimmed (take (stops - at) (drop at text)) → end ≤ length text → BeginsPiece jsonc (drop at text) sort.Line (end - at)
   line_by second end stops piece same h =
       let size : length (trimmed (take (stops - at) (drop at text))) ≡ end - at =
       ap length (sym same) ∙ length-take-le (end - at) (drop at text) (omega (arith, length-drop at text)) in
-      subst (λ n. IsPiece jsonc (drop at text) sort.Line n) size piece
+      subst (λ n. BeginsPiece jsonc (drop at text) sort.Line n) size piece
 
   pub ended-at : slice_get text (at + 1) ≡ Some slash → (end stops : ℕ) → Some stops ≡ option_map (λ n. (at + 2) + n) (through_line_end (drop (at + 2) text)) →
-      take (end - at) (drop at text) ≡ trimmed (take (stops - at) (drop at text)) → end ≤ length text → IsPiece jsonc (drop at text) sort.Line (end - at)
+      take (end - at) (drop at text) ≡ trimmed (take (stops - at) (drop at text)) → end ≤ length text → BeginsPiece jsonc (drop at text) sort.Line (end - at)
   ended-at second end stops e same h = by (through_line_end (drop (at + 2) text)) refl e
     where
-      by : (o : Option ℕ) → through_line_end (drop (at + 2) text) ≡ o → Some stops ≡ option_map (λ n. (at + 2) + n) o → IsPiece jsonc (drop at text) sort.Line (end - at)
+      by : (o : Option ℕ) → through_line_end (drop (at + 2) text) ≡ o → Some stops ≡ option_map (λ n. (at + 2) + n) o → BeginsPiece jsonc (drop at text) sort.Line (end - at)
       by None is f = cc
       by (Some m) is f =
           let there : stops ≡ (at + 2) + m = cc in
           let size : suc (suc m) ≡ stops - at = omega (arith, there) in
           line_by second end stops
-          (subst (λ n. IsPiece jsonc (drop at text) sort.Line (length (trimmed (take n (drop at text))))) size
-          (subst (λ l. IsPiece jsonc l sort.Line (length (trimmed (take (suc (suc m)) l)))) (sym (after-mark text at slash first second)) (ended-line (drop (at + 2) text) m is)))
+          (subst (λ n. BeginsPiece jsonc (drop at text) sort.Line (length (trimmed (take n (drop at text))))) size
+          (subst (λ l. BeginsPiece jsonc l sort.Line (length (trimmed (take (suc (suc m)) l)))) (sym (after-mark text at slash first second)) (ended-line (drop (at + 2) text) m is)))
           same h
 
   pub last-at : slice_get text (at + 1) ≡ Some slash → (end : ℕ) → None ≡ option_map (λ n. (at + 2) + n) (through_line_end (drop (at + 2) text)) →
-      take (end - at) (drop at text) ≡ trimmed (take (length text - at) (drop at text)) → end ≤ length text → IsPiece jsonc (drop at text) sort.Line (end - at)
+      take (end - at) (drop at text) ≡ trimmed (take (length text - at) (drop at text)) → end ≤ length text → BeginsPiece jsonc (drop at text) sort.Line (end - at)
   last-at second end e same h =
       let none = option_map-none (at + 2) (through_line_end (drop (at + 2) text)) e in
       let all : take (length text - at) (drop at text) ≡ drop at text = take_rest text at in
       line_by second end (length text)
-      (subst (λ l. IsPiece jsonc (drop at text) sort.Line (length (trimmed l))) (sym all)
-      (subst (λ l. IsPiece jsonc l sort.Line (length (trimmed l))) (sym (after-mark text at slash first second)) (last-line (drop (at + 2) text) none)))
+      (subst (λ l. BeginsPiece jsonc (drop at text) sort.Line (length (trimmed l))) (sym all)
+      (subst (λ l. BeginsPiece jsonc l sort.Line (length (trimmed l))) (sym (after-mark text at slash first second)) (last-line (drop (at + 2) text) none)))
       same h
 
 -- Where no comment is closed after a slash, no token is cut.

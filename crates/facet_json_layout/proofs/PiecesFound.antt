@@ -14,8 +14,8 @@ use Rattle.facet_json_token.proofs.ShapeIsCut.{ShapeAt, CutShape, here_shape}
 use Rattle.facet_json_token.proofs.Gaps.{gap_len-none, gap_len-some}
 use Rattle.facet_json_layout.specs.declared.pieces.Sort.{Sort}
 use Rattle.facet_json_layout.specs.declared.pieces.Sort.TheVariants as sort
-use Rattle.facet_json_layout.specs.Pieces.{Piece, token_text, comment, trimmed, with_comment, pieces_from, pieces, is_comma, closes, closing_next}
-use Rattle.facet_json_layout.specs.Inner.Layout.{ends_number, may_follow, sort_by, is_comma_sort, piece_of, IsPiece, all_tokens}
+use Rattle.facet_json_layout.specs.Pieces.{TextPiece, token_text, comment, trimmed, with_comment, pieces_from, pieces, is_comma, closes, closing_next}
+use Rattle.facet_json_layout.specs.Inner.Layout.{ends_number, may_follow, sort_by, is_comma_sort, piece_of, BeginsPiece, all_tokens}
 use Rattle.facet_json_layout.proofs.PieceSteps.{pieces-first, pieces-cut, after_cut, after_gap}
 use Rattle.facet_json_layout.proofs.PieceShapes.{first_of, no_gap, IsTokenText, token-here, token-elsewhere, token-piece, cut-before}
 use Rattle.facet_json_layout.proofs.PieceComments.{block-end, block-again, line-end, line-again, trimmed-mark, trimmed-space, comment-came}
@@ -27,7 +27,7 @@ mark-same [] e = refl
 mark-same (x ∷ l) e = rw e refl
 
 -- A block comment.
-pub block-piece : (rest : List ℕ) (m : ℕ) → through_block_end rest ≡ Some m → IsPiece jsonc (slash ∷ star ∷ rest) sort.Block (suc (suc m))
+pub block-piece : (rest : List ℕ) (m : ℕ) → through_block_end rest ≡ Some m → BeginsPiece jsonc (slash ∷ star ∷ rest) sort.Block (suc (suc m))
 block-piece rest m e =
     let h = block-end rest m e in
     let all = slash ∷ star ∷ rest in
@@ -46,7 +46,7 @@ block-piece rest m e =
 -- A line comment.
 line-piece : (rest line : List ℕ) (n : ℕ) → piece_len jsonc whole (slash ∷ slash ∷ rest) ≡ suc n → suc n ≤ length (slash ∷ slash ∷ rest) →
     trimmed (take (suc n) (slash ∷ slash ∷ rest)) ≡ trimmed (slash ∷ slash ∷ line) → through_line_end line ≡ None →
-    IsPiece jsonc (slash ∷ slash ∷ rest) sort.Line (length (trimmed (slash ∷ slash ∷ line)))
+    BeginsPiece jsonc (slash ∷ slash ∷ rest) sort.Line (length (trimmed (slash ∷ slash ∷ line)))
 line-piece rest line n e h same none =
     let all = slash ∷ slash ∷ rest in
     let text = slash ∷ slash ∷ trimmed line in
@@ -56,7 +56,7 @@ line-piece rest line n e h same none =
     let size : length all ≡ length text + length (drop (length text) all) = ap length here.0 ∙ length-append text _ in
     let again : (k : List ℕ) → may_follow sort.Line k ≡ true → pieces jsonc (text ++ k) ≡ comment text ∷ pieces jsonc k =
     λ k ends. subst (λ l. pieces jsonc (l ++ k) ≡ comment l ∷ pieces jsonc k) mark (line-again line k none ends) in
-    let made : IsPiece jsonc all sort.Line (length text) = record {
+    let made : BeginsPiece jsonc all sort.Line (length text) = record {
       some = omega arith;
       within = omega (arith, size);
       came = here.1 ∙ ap (λ l. comment l ∷ pieces jsonc (drop (length text) all)) (sym front);
@@ -64,22 +64,22 @@ line-piece rest line n e h same none =
       ends = λ no k. refl;
       commas = refl;
     } in
-    subst (λ l. IsPiece jsonc all sort.Line (length l)) (sym mark) made
+    subst (λ l. BeginsPiece jsonc all sort.Line (length l)) (sym mark) made
 
 -- Up to a line feed.
 pub ended-line : (rest : List ℕ) (m : ℕ) → through_line_end rest ≡ Some m →
-    IsPiece jsonc (slash ∷ slash ∷ rest) sort.Line (length (trimmed (take (suc (suc m)) (slash ∷ slash ∷ rest))))
+    BeginsPiece jsonc (slash ∷ slash ∷ rest) sort.Line (length (trimmed (take (suc (suc m)) (slash ∷ slash ∷ rest))))
 ended-line rest m e =
     let h = line-end rest m e in
     let same : trimmed (slash ∷ slash ∷ take m rest) ≡ trimmed (slash ∷ slash ∷ h.line) =
     ap (λ l. trimmed (slash ∷ slash ∷ l)) h.is ∙ trimmed-mark (h.line ++ line_feed ∷ [])
     ∙ ap (λ l. slash ∷ slash ∷ l) (trimmed-space h.line line_feed refl) ∙ sym (trimmed-mark h.line) in
-    subst (λ l. IsPiece jsonc (slash ∷ slash ∷ rest) sort.Line (length l)) (sym same)
+    subst (λ l. BeginsPiece jsonc (slash ∷ slash ∷ rest) sort.Line (length l)) (sym same)
     (line-piece rest h.line (suc m) (ap (with_line_mark whole rest) e) (omega (arith, h.size)) same h.unended)
 
 -- Up to the end of the text.
 pub last-line : (rest : List ℕ) → through_line_end rest ≡ None →
-    IsPiece jsonc (slash ∷ slash ∷ rest) sort.Line (length (trimmed (slash ∷ slash ∷ rest)))
+    BeginsPiece jsonc (slash ∷ slash ∷ rest) sort.Line (length (trimmed (slash ∷ slash ∷ rest)))
 last-line rest e =
     line-piece rest rest (suc (length rest)) (ap (with_line_mark whole rest) e) (omega arith)
     (ap (λ l. trimmed (slash ∷ slash ∷ l)) (take_all (length rest) rest (omega arith))) e
@@ -110,7 +110,7 @@ sort-comma b =
 
 -- A token that is cut, where no gap is.
 pub token-found : (mode : Mode) (at b : ℕ) (rest : List ℕ) (t : Token) → is_space b ≡ false → (b == slash) ≡ false →
-    cut_here mode at (b ∷ rest) ≡ token t → 0 < t.span.len → IsPiece mode (b ∷ rest) (sort_by b) t.span.len
+    cut_here mode at (b ∷ rest) ≡ token t → 0 < t.span.len → BeginsPiece mode (b ∷ rest) (sort_by b) t.span.len
 token-found mode at b rest t e f is some =
     let all = b ∷ rest in
     let n = t.span.len in
@@ -158,7 +158,7 @@ abbrev pub closes_first : List ℕ → Bool
 closes_first [] = false
 closes_first (b ∷ bytes) = closes b
 
-comment-passed : (text : List ℕ) (ps : List Piece) → closing_next (with_comment text ps) ≡ closing_next ps
+comment-passed : (text : List ℕ) (ps : List TextPiece) → closing_next (with_comment text ps) ≡ closing_next ps
 comment-passed [] ps = refl
 comment-passed (b ∷ text) ps = refl
 
@@ -171,7 +171,7 @@ closing-cut mode b bytes e = by (b == right_brace) refl
         let other : (b == right_bracket) ≡ true = rw is at e in
         rw (eqb-true b right_bracket other) (_, cut_here-shape mode 0 (right_bracket ∷ []) bytes _ (IsShape.structural right_bracket _ bytes array_ends))
 
-closing-text : (mode : Mode) (n b : ℕ) (bytes rest : List ℕ) (ps : List Piece) → IsTokenText mode (take n (b ∷ bytes)) rest →
+closing-text : (mode : Mode) (n b : ℕ) (bytes rest : List ℕ) (ps : List TextPiece) → IsTokenText mode (take n (b ∷ bytes)) rest →
     closing_next (token_text (take n (b ∷ bytes)) ∷ ps) ≡ closes b
 closing-text mode zero b bytes rest ps t = let no = t.is in cc
 closing-text mode (suc n) b bytes rest ps t = refl

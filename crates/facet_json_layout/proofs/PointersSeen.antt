@@ -8,7 +8,7 @@ use Rattle.facet_json_tree.specs.Content.{as_list, as_pairs}
 use Rattle.facet_json_tree.specs.Lookup.{item_at}
 use Rattle.facet_json_tree.specs.Pointer.{child}
 use Rattle.facet_json_layout.specs.Nodes.{Node, leaf, key, list, object, closing, is_list, is_object, items, values, trees_len, node_view, nodes_view, value_view}
-use Rattle.facet_json_layout.specs.Inner.Looking.{from, Stands}
+use Rattle.facet_json_layout.specs.Inner.Looking.{from, NodeStands}
 use Rattle.facet_json_layout.specs.declared.document.node.Node.{Node as RustNode}
 use Rattle.facet_json_layout.specs.declared.document.value.Value.{Value}
 use Rattle.facet_json_layout.proofs.NodesSeen.{no-list, no-pairs}
@@ -19,7 +19,7 @@ neither-child name (trees.pairs ps) e f = cc
 neither-child name _ e f = refl
 
 -- Nothing has a name in a value that is neither a list nor an object.
-pub no-child : (v : Value) (n : RustNode) (name : List ℕ) → Stands v v.index (node_view n) → is_object (node_view n) ≡ false →
+pub no-child : (v : Value) (n : RustNode) (name : List ℕ) → NodeStands v v.index (node_view n) → is_object (node_view n) ≡ false →
     is_list (node_view n) ≡ false → child name (value_view v) ≡ None
 no-child v n name s e f = neither-child name (value_view v) (no-list v n s f) (no-pairs v n s e)
 

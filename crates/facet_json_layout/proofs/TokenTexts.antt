@@ -15,7 +15,7 @@ use Rattle.facet_json_token.proofs.ShapesCut.{cut_here-shape}
 use Rattle.facet_json_token.proofs.ShapeIsCut.{ShapeAt, CutShape, here_shape}
 use Rattle.facet_json_token.proofs.TokensSteps.{cut-end, tokens_by_first, tokens_from-nothing}
 use Rattle.facet_json_layout.specs.Inner.Layout.{all_tokens}
-use Rattle.facet_json_layout.specs.Pieces.{Piece, token_text, comment, no_token, trimmed, with_comment, pieces_from, pieces, without_trailing_commas, closing_next, closes, is_comma}
+use Rattle.facet_json_layout.specs.Pieces.{TextPiece, token_text, comment, no_token, trimmed, with_comment, pieces_from, pieces, without_trailing_commas, closing_next, closes, is_comma}
 use Rattle.facet_json_layout.proofs.AllTokens.{tokens-same, cut-here, piece-bound}
 use Rattle.facet_json_layout.proofs.PieceSteps.{after_cut, after_gap, pieces-first}
 use Rattle.facet_json_layout.proofs.PieceShapes.{token-elsewhere, token-here, IsTokenText}
@@ -23,7 +23,7 @@ use Rattle.facet_json_layout.proofs.PieceShapes.{token-elsewhere, token-here, Is
 -- ---- texts
 
 -- the texts of the tokens among pieces
-abbrev pub texts : List Piece → List (List ℕ)
+abbrev pub texts : List TextPiece → List (List ℕ)
 texts [] = []
 texts (no_token ∷ ps) = texts ps
 texts (comment text ∷ ps) = texts ps
@@ -40,14 +40,14 @@ abbrev pub without : List (List ℕ) → List (List ℕ)
 without [] = []
 without (x ∷ xs) = cond (is_comma x && closing_first xs) (without xs) (x ∷ without xs)
 
-first-closes : (ps : List Piece) → all_tokens ps ≡ true → closing_next ps ≡ closing_first (texts ps)
+first-closes : (ps : List TextPiece) → all_tokens ps ≡ true → closing_next ps ≡ closing_first (texts ps)
 first-closes [] all = refl
 first-closes (no_token ∷ ps) all = cc
 first-closes (comment text ∷ ps) all = first-closes ps all
 first-closes (token_text [] ∷ ps) all = refl
 first-closes (token_text (b ∷ text) ∷ ps) all = refl
 
-pub texts-without : (ps : List Piece) → all_tokens ps ≡ true → texts (without_trailing_commas ps) ≡ without (texts ps)
+pub texts-without : (ps : List TextPiece) → all_tokens ps ≡ true → texts (without_trailing_commas ps) ≡ without (texts ps)
 texts-without [] all = refl
 texts-without (no_token ∷ ps) all = cc
 texts-without (comment text ∷ ps) all = texts-without ps all
@@ -60,7 +60,7 @@ texts-without (token_text x ∷ ps) all =
     by true e = e
     by false e = ap (λ xs. x ∷ xs) e
 
-pub all-without : (ps : List Piece) → all_tokens ps ≡ true → all_tokens (without_trailing_commas ps) ≡ true
+pub all-without : (ps : List TextPiece) → all_tokens ps ≡ true → all_tokens (without_trailing_commas ps) ≡ true
 all-without [] all = refl
 all-without (no_token ∷ ps) all = cc
 all-without (comment text ∷ ps) all = all-without ps all
@@ -86,11 +86,11 @@ pub data HaveTexts (text : List ℕ) : Tokens → List (List ℕ) → Type 0 whe
   a_text : (t : Token) (ts : Tokens) (x : List ℕ) (xs : List (List ℕ)) → HasText text t x → HaveTexts text ts xs →
       HaveTexts text (next t ts) (x ∷ xs)
 
-texts-comment : (x : List ℕ) (ps : List Piece) → texts (with_comment x ps) ≡ texts ps
+texts-comment : (x : List ℕ) (ps : List TextPiece) → texts (with_comment x ps) ≡ texts ps
 texts-comment [] ps = refl
 texts-comment (b ∷ x) ps = refl
 
-all-comment : (x : List ℕ) (ps : List Piece) → all_tokens (with_comment x ps) ≡ true → all_tokens ps ≡ true
+all-comment : (x : List ℕ) (ps : List TextPiece) → all_tokens (with_comment x ps) ≡ true → all_tokens ps ≡ true
 all-comment [] ps e = e
 all-comment (b ∷ x) ps e = e
 

@@ -4,8 +4,8 @@ use Rattle.std.proofs.lemmas.List.{append-nil}
 use Rattle.facet_json_document.specs.Tree.{Tree, Trees, no_trees, tree, Pairs, no_pairs, pair}
 use Rattle.facet_json_tree.specs.Views.{tree_view, trees_view, pairs_view}
 use Rattle.facet_json_tree.specs.declared.tree.Tree.{Tree as RustTree}
-use Rattle.facet_json_layout.specs.Nodes.{items, members, trees_list, pairs_list, value_at, value_of, node_view, nodes_view, value_view}
-use Rattle.facet_json_layout.specs.Inner.Looking.{from, Stands, IsItem, IsMember}
+use Rattle.facet_json_layout.specs.Nodes.{items, members, trees_list, pairs_list, value_at, value_beginning, node_view, nodes_view, value_view}
+use Rattle.facet_json_layout.specs.Inner.Looking.{from, NodeStands, IsItem, MemberStands}
 use Rattle.facet_json_layout.specs.declared.document.node.Node.{Node as RustNode}
 use Rattle.facet_json_layout.specs.declared.document.value.Value.{Value}
 use Rattle.facet_json_layout.proofs.NodesSeen.{value-stands}
@@ -32,7 +32,7 @@ item-copied v w copies at to copy so item same nodes index =
     so ∙ ap (λ ts. map tree_view copies ++ trees_list ts) item.are ∙ one-more tree_view copies copy _ _ seen
 
 pub member-copied : (v w : Value) (copies : List (String Global × RustTree)) (at behind to : ℕ) (name : List ℕ) (text : String Global)
-    (copy : RustTree) → MembersCopied v copies at → IsMember v at name to → string_bytes text ≡ name → tree_view copy ≡ value_view w →
+    (copy : RustTree) → MembersCopied v copies at → MemberStands v at name to → string_bytes text ≡ name → tree_view copy ≡ value_view w →
     w.nodes.now ≡ v.nodes.now → w.index ≡ behind → behind ≡ suc at → MembersCopied v (copies ++ (text, copy) ∷ []) to
 member-copied v w copies at behind to name text copy so member named same nodes index b =
     let seen : tree_view copy ≡ value_at (nodes_view v.nodes.now) (suc at) =
@@ -72,10 +72,10 @@ members-copied v copies at so none =
 -- ---- a value by its node
 
 -- The value at a node that is this one.
-pub value-of_node : (v : Value) (n m : RustNode) → Stands v v.index (node_view n) → n ≡ m → value_view v ≡ value_of (node_view m) (from v (suc v.index))
-value-of_node v n m s e = value-stands v (node_view n) s ∙ ap (λ k. value_of (node_view k) (from v (suc v.index))) e
+pub value-of_node : (v : Value) (n m : RustNode) → NodeStands v v.index (node_view n) → n ≡ m → value_view v ≡ value_beginning (node_view m) (from v (suc v.index))
+value-of_node v n m s e = value-stands v (node_view n) s ∙ ap (λ k. value_beginning (node_view k) (from v (suc v.index))) e
 
 -- What is said of it is said of the value.
-pub said-of_node : (v : Value) (n m : RustNode) (said : Tree → Type 0) → Stands v v.index (node_view n) → n ≡ m →
-    said (value_of (node_view m) (from v (suc v.index))) → said (value_view v)
+pub said-of_node : (v : Value) (n m : RustNode) (said : Tree → Type 0) → NodeStands v v.index (node_view n) → n ≡ m →
+    said (value_beginning (node_view m) (from v (suc v.index))) → said (value_view v)
 said-of_node v n m said s e h = subst said (sym (value-of_node v n m s e)) h

@@ -19,8 +19,8 @@ use Rattle.facet_json_tree.specs.Depth.{too_deep_at}
 use Rattle.facet_json_tree.specs.Inner.Beyond.{beyond}
 
 -- The text begins with a document.
-abbrev pub HasDocument : List ℕ → Mode → Type 0
-HasDocument text mode = (root : Node) × (tree : Tree) × IsDocument text mode root tree
+abbrev pub BeginsDocument : List ℕ → Mode → Type 0
+BeginsDocument text mode = (root : Node) × (tree : Tree) × IsDocument text mode root tree
 
 -- All of the text is this document, with this tree: nothing but a gap follows it.
 abbrev pub IsOneDocument : List ℕ → Mode → Node → Tree → Type 0
@@ -45,7 +45,7 @@ abbrev pub LacksOrRefusesOne : List ℕ → Mode → Refusal → Type 0
 LacksOrRefusesOne text mode refusal = LacksMemory refusal ⊎ RefusesOne text mode refusal
 
 -- After some events nothing goes on with what comes, and it is refused so.
-pub record BreaksOff (now : Now) (refusal : Refusal) : Type 0 where
+pub record GetsStuck (now : Now) (refusal : Refusal) : Type 0 where
   pub events : List Passed
   pub place : Place
   pub rest : Tokens
@@ -53,10 +53,10 @@ pub record BreaksOff (now : Now) (refusal : Refusal) : Type 0 where
   pub so : IsStuck now.buffer place rest refusal
 
 -- Memory ran out, or RFC 8259 has no such text, and it is refused so.
-abbrev pub LacksOrBreaksOff : List ℕ → Refusal → Type 0
-LacksOrBreaksOff text refusal = LacksMemory refusal ⊎ BreaksOff (fresh_in text (strict plain)) refusal
+abbrev pub LacksOrGetsStuck : List ℕ → Refusal → Type 0
+LacksOrGetsStuck text refusal = LacksMemory refusal ⊎ GetsStuck (fresh_in text (strict plain)) refusal
 
 -- After some events nothing goes on with what comes, and none of them opens a container beyond the limit; or one does. It is refused so.
-pub data BreaksOffWithin (limit : Option ℕ) (now : Now) (refusal : Refusal) : Type 0 where
-  as_ever : BreaksOff now refusal → beyond (future_of now) limit ≡ None → BreaksOffWithin limit now refusal
-  opens_beyond : (span : Span) → beyond (future_of now) limit ≡ Some span → refusal ≡ too_deep_at span → BreaksOffWithin limit now refusal
+pub data GetsStuckWithin (limit : Option ℕ) (now : Now) (refusal : Refusal) : Type 0 where
+  as_ever : GetsStuck now refusal → beyond (future_of now) limit ≡ None → GetsStuckWithin limit now refusal
+  opens_beyond : (span : Span) → beyond (future_of now) limit ≡ Some span → refusal ≡ too_deep_at span → GetsStuckWithin limit now refusal

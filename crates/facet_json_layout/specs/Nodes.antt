@@ -23,19 +23,19 @@ pub data Node : Type 0 where
   leaf : Tree → Node
   key : List ℕ → Node
   -- with the number of nodes up to its end, that of the end with them
-  list : (inner : ℕ) → Node
-  object : (inner : ℕ) → Node
+  list : (inner_len : ℕ) → Node
+  object : (inner_len : ℕ) → Node
   closing : Node
 
 -- how many nodes after this one belong to it
-abbrev pub inner : Node → ℕ
-inner (list n) = n
-inner (object n) = n
-inner _ = 0
+abbrev pub inner_len : Node → ℕ
+inner_len (list n) = n
+inner_len (object n) = n
+inner_len _ = 0
 
-abbrev pub is_closing : Node → Bool
-is_closing closing = true
-is_closing _ = false
+abbrev pub is_closing_node : Node → Bool
+is_closing_node closing = true
+is_closing_node _ = false
 
 abbrev pub is_leaf : Node → Bool
 is_leaf (leaf t) = true
@@ -60,14 +60,14 @@ abbrev pub items : ℕ → List (Node × Tree) → Trees
 items n [] = no_trees
 items (suc n) (x ∷ xs) = items n xs
 items zero ((closing, t) ∷ xs) = no_trees
-items zero ((n, t) ∷ xs) = tree t (items (inner n) xs)
+items zero ((n, t) ∷ xs) = tree t (items (inner_len n) xs)
 
 -- the members of an object, likewise: after a key's node its value begins
 abbrev pub members : ℕ → List (Node × Tree) → Pairs
 members n [] = no_pairs
 members (suc n) (x ∷ xs) = members n xs
 members zero ((key name, t) ∷ []) = no_pairs
-members zero ((key name, t) ∷ (x ∷ xs)) = pair name x.1 (members (inner x.0) xs)
+members zero ((key name, t) ∷ (x ∷ xs)) = pair name x.1 (members (inner_len x.0) xs)
 members zero (_ ∷ xs) = no_pairs
 
 -- what stands for a value where none begins, as at a key or an end
@@ -75,15 +75,15 @@ abbrev pub nothing : Tree
 nothing = trees.bytes []
 
 -- the value that begins at a node
-abbrev pub value_of : Node → List (Node × Tree) → Tree
-value_of (leaf t) later = t
-value_of (list n) later = trees.list (items 0 later)
-value_of (object n) later = trees.pairs (members 0 later)
-value_of _ later = nothing
+abbrev pub value_beginning : Node → List (Node × Tree) → Tree
+value_beginning (leaf t) later = t
+value_beginning (list n) later = trees.list (items 0 later)
+value_beginning (object n) later = trees.pairs (members 0 later)
+value_beginning _ later = nothing
 
 unfoldable pub values : List Node → List (Node × Tree)
 values [] = []
-values (n ∷ nodes) = (n, value_of n (values nodes)) ∷ values nodes
+values (n ∷ nodes) = (n, value_beginning n (values nodes)) ∷ values nodes
 
 abbrev pub value_in : Option (Node × Tree) → Tree
 value_in None = nothing
@@ -96,18 +96,18 @@ value_at nodes index = value_in (slice_get (values nodes) index)
 -- ---- what they are
 
 -- what a value is in JSON (RFC 8259, section 3); none of a document is any other than these
-abbrev pub kind_of : Tree → ValueKind
-kind_of (trees.bool b) = kind.Bool
-kind_of (trees.i64 n) = kind.Number
-kind_of (trees.u64 n) = kind.Number
-kind_of (trees.i128 n) = kind.Number
-kind_of (trees.u128 n) = kind.Number
-kind_of (trees.decimal digits) = kind.Number
-kind_of (trees.char c) = kind.Text
-kind_of (trees.text t) = kind.Text
-kind_of (trees.list ts) = kind.List
-kind_of (trees.pairs ps) = kind.Object
-kind_of _ = kind.Null
+abbrev pub value_kind : Tree → ValueKind
+value_kind (trees.bool b) = kind.Bool
+value_kind (trees.i64 n) = kind.Number
+value_kind (trees.u64 n) = kind.Number
+value_kind (trees.i128 n) = kind.Number
+value_kind (trees.u128 n) = kind.Number
+value_kind (trees.decimal digits) = kind.Number
+value_kind (trees.char c) = kind.Text
+value_kind (trees.text t) = kind.Text
+value_kind (trees.list ts) = kind.List
+value_kind (trees.pairs ps) = kind.Object
+value_kind _ = kind.Null
 
 -- ---- how many, and which
 

@@ -5,13 +5,13 @@ use Rattle.facet_json_token.specs.Gap.{Mode, whole}
 use Rattle.facet_json_token.specs.GapLen.{piece_len}
 use Rattle.facet_json_token.specs.Cut.{nothing_left, token, fault, cut_here}
 
-pub data Piece : Type 0 where
+pub data TextPiece : Type 0 where
   -- a token's bytes
-  token_text : List ℕ → Piece
+  token_text : List ℕ → TextPiece
   -- a comment's bytes, without the end of its line
-  comment : List ℕ → Piece
+  comment : List ℕ → TextPiece
   -- no token stands there, and what follows is not looked at
-  no_token : Piece
+  no_token : TextPiece
 
 -- ---- the pieces of a text
 
@@ -25,12 +25,12 @@ trimmed [] = []
 trimmed (b ∷ bytes) = kept b (trimmed bytes)
 
 -- A piece of a gap is a comment, but for white space, of which nothing is left.
-abbrev pub with_comment : List ℕ → List Piece → List Piece
+abbrev pub with_comment : List ℕ → List TextPiece → List TextPiece
 with_comment [] ps = ps
 with_comment (b ∷ text) ps = comment (b ∷ text) ∷ ps
 
 -- the pieces after the next `inside` bytes, which are still of the piece before
-unfoldable pub pieces_from : Mode → ℕ → List ℕ → List Piece
+unfoldable pub pieces_from : Mode → ℕ → List ℕ → List TextPiece
 pieces_from mode inside [] = []
 pieces_from mode (suc inside) (b ∷ bytes) = pieces_from mode inside bytes
 pieces_from mode zero (b ∷ bytes) = elim (piece_len mode whole (b ∷ bytes)) [
@@ -43,7 +43,7 @@ pieces_from mode zero (b ∷ bytes) = elim (piece_len mode whole (b ∷ bytes)) 
 ]
 
 -- the pieces of the text
-abbrev pub pieces : Mode → List ℕ → List Piece
+abbrev pub pieces : Mode → List ℕ → List TextPiece
 pieces mode bytes = pieces_from mode 0 bytes
 
 -- ---- without the commas that trail
@@ -58,7 +58,7 @@ abbrev pub closes : ℕ → Bool
 closes b = (b == right_brace) || (b == right_bracket)
 
 -- whether the next token is a closing bracket
-abbrev pub closing_next : List Piece → Bool
+abbrev pub closing_next : List TextPiece → Bool
 closing_next [] = false
 closing_next (no_token ∷ ps) = false
 closing_next (comment text ∷ ps) = closing_next ps
@@ -66,7 +66,7 @@ closing_next (token_text [] ∷ ps) = false
 closing_next (token_text (b ∷ text) ∷ ps) = closes b
 
 -- the pieces but for the commas after which a closing bracket is the next token
-abbrev pub without_trailing_commas : List Piece → List Piece
+abbrev pub without_trailing_commas : List TextPiece → List TextPiece
 without_trailing_commas [] = []
 without_trailing_commas (no_token ∷ ps) = no_token ∷ without_trailing_commas ps
 without_trailing_commas (comment text ∷ ps) = comment text ∷ without_trailing_commas ps

@@ -8,7 +8,7 @@ ghost use Rattle.facet_json_token.specs.Gap.{jsonc, plain};
 ghost use Rattle.facet_json_token.specs.TokenList.{tokens_from};
 ghost use Rattle.facet_json_token.specs.Tokens.{ended};
 ghost use Rattle.facet_json_token.specs.Views.{mode_of};
-ghost use Rattle.facet_json_layout.specs.Formatted.{BreaksOff, HasDocument, HasOneDocument, LacksOrBreaksOff, LacksOrRefusesOne};
+ghost use Rattle.facet_json_layout.specs.Formatted.{GetsStuck, BeginsDocument, HasOneDocument, LacksOrGetsStuck, LacksOrRefusesOne};
 ghost use Rattle.facet_json_document.specs.Move.{Moves};
 ghost use Rattle.facet_json_document.specs.Now.{ahead, fresh, current_span_of as last_read};
 ghost use Rattle.facet_json_document.specs.PrefixRefusal.{Refuses};
@@ -38,8 +38,8 @@ use std::alloc::Global;
 ///
 /// As `tree_from_slice`: the bytes begin with no document, or an allocation failed.
 pub fn check<'t>(alloc: Global, input: &[u8]) -> Result<(), DeserializeError<'t>>
-    ensures document { OnOk result (HasDocument input.now plain) }
-    ensures only { HasDocument input.now plain → IfErr result (λ e. LacksMemory (refusal_of e)) }
+    ensures document { OnOk result (BeginsDocument input.now plain) }
+    ensures only { BeginsDocument input.now plain → IfErr result (λ e. LacksMemory (refusal_of e)) }
     ensures refused { IfErr result (λ e. LacksMemory (refusal_of e) ⊎ Refuses input.now plain (refusal_of e)) }
     ensures within { IfErr result (λ e. RefusalWithin input.now (refusal_of e)) }
 {
@@ -57,8 +57,8 @@ pub fn check<'t>(alloc: Global, input: &[u8]) -> Result<(), DeserializeError<'t>
 ///
 /// As `tree_from_slice_jsonc`.
 pub fn check_jsonc<'t>(alloc: Global, input: &[u8]) -> Result<(), DeserializeError<'t>>
-    ensures document { OnOk result (HasDocument input.now jsonc) }
-    ensures only { HasDocument input.now jsonc → IfErr result (λ e. LacksMemory (refusal_of e)) }
+    ensures document { OnOk result (BeginsDocument input.now jsonc) }
+    ensures only { BeginsDocument input.now jsonc → IfErr result (λ e. LacksMemory (refusal_of e)) }
     ensures refused { IfErr result (λ e. LacksMemory (refusal_of e) ⊎ Refuses input.now jsonc (refusal_of e)) }
     ensures within { IfErr result (λ e. RefusalWithin input.now (refusal_of e)) }
 {
@@ -80,7 +80,7 @@ pub fn check_strict<'t>(alloc: Global, input: &[u8]) -> Result<(), DeserializeEr
     ensures document { OnOk result (IsStrict input.now) }
     ensures only { IsStrict input.now → IfErr result (λ e. LacksMemory (refusal_of e)) }
     ensures within { IfErr result (λ e. RefusalWithin input.now (refusal_of e)) }
-    ensures refused { IfErr result (λ e. LacksOrBreaksOff input.now (refusal_of e)) }
+    ensures refused { IfErr result (λ e. LacksOrGetsStuck input.now (refusal_of e)) }
 {
     pass_up(&mut JsonParser::new_strict(alloc, input))?;
     Ok(())
@@ -124,7 +124,7 @@ fn last_token<'t>(alloc: Global, text: &[u8], mode: Mode) -> Result<Span, Deseri
 fn pass_up<'t>(parser: &mut JsonParser<'_>) -> Result<Span, DeserializeError<'t>>
     requires unpeeked { parser.old.cursor.spot.peeked ≡ false }
     ensures up { IfOk result (λ last. PassesUp parser.old (span_of last)) }
-    ensures refused { parser.old.cursor.refusal ≡ None → IfErr result (λ e. LacksMemory (refusal_of e) ⊎ BreaksOff parser.old (refusal_of e)) }
+    ensures refused { parser.old.cursor.refusal ≡ None → IfErr result (λ e. LacksMemory (refusal_of e) ⊎ GetsStuck parser.old (refusal_of e)) }
     ensures inside { IfOk result (λ last. stop (span_of last) ≤ length parser.old.buffer) }
     ensures within { IfErr result (λ e. RefusalWithin parser.old.buffer (refusal_of e)) }
 {

@@ -14,7 +14,7 @@ ghost use Rattle.facet_json_document.specs.PrefixRefusal.{Refuses};
 ghost use Rattle.std.specs.Prelude.{◌≡◌, ◌≤◌, ◌⊎◌, None, Some, IfOk, IfErr, OnOk, MatchResult};
 ghost use Rattle.facet_json_document.specs.StrictDocument.{IsStrictDocument};
 ghost use Rattle.facet_json_document.specs.Tree.{Tree};
-ghost use Rattle.facet_json_layout.specs.Formatted.{BreaksOffWithin, LacksOrBreaksOff};
+ghost use Rattle.facet_json_layout.specs.Formatted.{GetsStuckWithin, LacksOrGetsStuck};
 ghost use Rattle.facet_json_tree.specs.Depth.{depth_of, first_beyond, too_deep_at, RefusesWithin};
 ghost use Rattle.facet_json_tree.specs.Inner.Beyond.{beyond};
 ghost use Rattle.facet_json_document.specs.UnreadLaws.{RefusalWithin};
@@ -105,7 +105,7 @@ impl<'i> Document<'i> {
         input: &'i [u8],
     ) -> Result<Document<'i>, DeserializeError<'t>>
         ensures document { IfOk result (λ d. (root : Root) × IsStrictDocument input.now root (document_view d)) }
-        ensures refused { IfErr result (λ e. LacksOrBreaksOff input.now (refusal_of e)) }
+        ensures refused { IfErr result (λ e. LacksOrGetsStuck input.now (refusal_of e)) }
         ensures only { (root : Root) (value : Tree) → IsStrictDocument input.now root value
             → MatchResult result (λ d. document_view d ≡ value) (λ e. LacksMemory (refusal_of e)) }
         ensures within { IfErr result (λ e. RefusalWithin input.now (refusal_of e)) }
@@ -193,7 +193,7 @@ impl<'i> Document<'i> {
             → MatchResult result (λ d. document_view d ≡ value) (λ e. LacksMemory (refusal_of e)) }
         ensures deeper { (root : Root) (value : Tree) (s : Span) → IsStrictDocument input.now root value → first_beyond depth root ≡ Some s
             → MatchResult result (λ _. ⊥) (λ e. LacksMemory (refusal_of e) ⊎ (refusal_of e ≡ too_deep_at s)) }
-        ensures refused { IfErr result (λ e. LacksMemory (refusal_of e) ⊎ BreaksOffWithin (Some depth) (fresh_in input.now (strict plain)) (refusal_of e)) }
+        ensures refused { IfErr result (λ e. LacksMemory (refusal_of e) ⊎ GetsStuckWithin (Some depth) (fresh_in input.now (strict plain)) (refusal_of e)) }
         ensures within { IfErr result (λ e. RefusalWithin input.now (refusal_of e)) }
     {
         Ok(Document {
@@ -222,7 +222,7 @@ fn lenient_nodes<'i, 't>(
 ) -> Result<Vec<Node<'i>>, DeserializeError<'t>>
     ensures nodes { IfOk result (λ v. AddsAll (fresh input.now (mode_of mode)) (nodes_view v.items)) }
     ensures shallow { OnOk result (beyond (future_of (fresh input.now (mode_of mode))) depth ≡ None) }
-    ensures refused { IfErr result (λ e. LacksMemory (refusal_of e) ⊎ BreaksOffWithin depth (fresh input.now (mode_of mode)) (refusal_of e)) }
+    ensures refused { IfErr result (λ e. LacksMemory (refusal_of e) ⊎ GetsStuckWithin depth (fresh input.now (mode_of mode)) (refusal_of e)) }
     ensures within { IfErr result (λ e. RefusalWithin input.now (refusal_of e)) }
 {
     match mode {
@@ -239,7 +239,7 @@ fn strict_nodes<'i, 't>(
 ) -> Result<Vec<Node<'i>>, DeserializeError<'t>>
     ensures nodes { IfOk result (λ v. AddsAll (fresh_in input.now (strict plain)) (nodes_view v.items)) }
     ensures shallow { OnOk result (beyond (future_of (fresh_in input.now (strict plain))) depth ≡ None) }
-    ensures refused { IfErr result (λ e. LacksMemory (refusal_of e) ⊎ BreaksOffWithin depth (fresh_in input.now (strict plain)) (refusal_of e)) }
+    ensures refused { IfErr result (λ e. LacksMemory (refusal_of e) ⊎ GetsStuckWithin depth (fresh_in input.now (strict plain)) (refusal_of e)) }
     ensures within { IfErr result (λ e. RefusalWithin input.now (refusal_of e)) }
 {
     build(alloc, &mut JsonParser::new_strict(alloc, input), depth)

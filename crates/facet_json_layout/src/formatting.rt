@@ -5,7 +5,7 @@ ghost use Rattle.facet_format.specs.Views.{refusal_of};
 ghost use Rattle.facet_json_token.specs.Gap.{plain};
 ghost use Rattle.facet_json_token.specs.Views.{mode_of};
 ghost use Rattle.facet_json_layout.specs.Pieces.{pieces, without_trailing_commas};
-ghost use Rattle.facet_json_layout.specs.Formatted.{HasOneDocument, HaveOneTree, LacksOrBreaksOff, LacksOrRefusesOne};
+ghost use Rattle.facet_json_layout.specs.Formatted.{HasOneDocument, HaveOneTree, LacksOrGetsStuck, LacksOrRefusesOne};
 ghost use Rattle.facet_json_document.specs.StrictDocument.{IsStrict};
 ghost use Rattle.facet_json_document.specs.UnreadLaws.{RefusalWithin};
 ghost use Rattle.facet_json_core.specs.Reading.{LacksMemory};
@@ -101,7 +101,7 @@ pub fn format_text_strict<'t>(
     ensures tree { IfOk result (λ v. HaveOneTree text.now v.items plain) }
     ensures document { OnOk result (IsStrict text.now) }
     ensures only { IsStrict text.now → IfErr result (λ e. LacksMemory (refusal_of e)) }
-    ensures refused { IfErr result (λ e. LacksOrBreaksOff text.now (refusal_of e)) }
+    ensures refused { IfErr result (λ e. LacksOrGetsStuck text.now (refusal_of e)) }
     ensures within { IfErr result (λ e. RefusalWithin text.now (refusal_of e)) }
 {
     check_strict(alloc, text)?;

@@ -3,7 +3,7 @@
 ghost use Rattle.std.specs.Prelude.{◌≡◌, ◌≤◌, ◌<◌, ◌+◌, ◌-◌, ◌^◌, [], length, drop, true, ◌&&◌, OnOk, IfOk};
 ghost use Rattle.facet_json_token.specs.Views.{mode_of};
 ghost use Rattle.facet_json_layout.specs.Pieces.{pieces, closing_next, without_trailing_commas};
-ghost use Rattle.facet_json_layout.specs.Inner.Layout.{IsLaidOut, IsPiece, all_tokens, is_comma_sort, parts};
+ghost use Rattle.facet_json_layout.specs.Inner.Layout.{IsLaidOut, BeginsPiece, all_tokens, is_comma_sort, keeps_apart};
 
 use crate::pieces::{Found, Sort, closes_next, find, goes_on_in_line};
 use crate::spacing::{Breaks, Indent, Space, push_space, space_between};
@@ -79,7 +79,7 @@ impl Layout<'_> {
     ) -> Result<Progress, AllocError>
         requires laid { IsLaidOut (mode_of self.now.mode) self.now.text.now progress.at progress.last out.old }
         requires ahead { progress.at ≤ end }
-        requires piece { IsPiece (mode_of self.now.mode) (drop progress.at self.now.text.now) sort (end - progress.at) }
+        requires piece { BeginsPiece (mode_of self.now.mode) (drop progress.at self.now.text.now) sort (end - progress.at) }
         ensures at { IfOk result (λ p. p.at ≡ end) }
         ensures laid { IfOk result (λ p. IsLaidOut (mode_of self.now.mode) self.now.text.now p.at p.last out.new) }
     {
@@ -102,7 +102,7 @@ impl Layout<'_> {
 
     /// The white space before a piece that ends there.
     fn space_before(&self, progress: Progress, sort: Sort, end: usize) -> Space
-        ensures { parts progress.last sort result ≡ true }
+        ensures { keeps_apart progress.last sort result ≡ true }
     {
         let leads = sort.is_block() && goes_on_in_line(self.text, end);
         space_between(progress.last, sort, progress.breaks, leads)

@@ -5,7 +5,7 @@ ghost use Rattle.facet_format.specs.Bytes.{is_space, slash, star};
 ghost use Rattle.facet_json_token.specs.Gap.{jsonc};
 ghost use Rattle.facet_json_token.specs.Views.{mode_of};
 ghost use Rattle.facet_json_layout.specs.Pieces.{pieces, trimmed, closes, closing_next};
-ghost use Rattle.facet_json_layout.specs.Inner.Layout.{IsFound, IsPiece, is_comma_sort, sort_by};
+ghost use Rattle.facet_json_layout.specs.Inner.Layout.{IsFound, BeginsPiece, is_comma_sort, sort_by};
 
 use facet_json_token::cutting::{block_end, line_end, skip_gap};
 use facet_json_token::{Mode, Token, cut};
@@ -180,7 +180,7 @@ fn line_comment_end(text: &[u8], at: usize) -> usize
     requires first { slice_get text.now at ≡ Some slash }
     requires second { slice_get text.now (at + 1) ≡ Some slash }
     ensures ahead { at ≤ result }
-    ensures piece { IsPiece jsonc (drop at text.now) Sort.Line (result - at) }
+    ensures piece { BeginsPiece jsonc (drop at text.now) Sort.Line (result - at) }
 {
     let end = match line_end(text, at + 2) {
         Some(end) => end,

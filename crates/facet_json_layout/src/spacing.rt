@@ -1,7 +1,7 @@
 //! The white space that is written between the pieces of a text.
 
 ghost use Rattle.std.specs.Prelude.{◌≡◌, ◌++◌, true, OnOk};
-ghost use Rattle.facet_json_layout.specs.Inner.Layout.{IsIndented, IsSpaced, parts};
+ghost use Rattle.facet_json_layout.specs.Inner.Layout.{IsIndented, IsSpaced, keeps_apart};
 
 use crate::pieces::Sort;
 use facet_json_escape::Sink;
@@ -63,7 +63,7 @@ impl Breaks {
 /// The white space between two pieces, where so many lines ended between them. `leads` says that the second one is a comment
 /// after which its line goes on.
 pub(crate) fn space_between(last: Sort, next: Sort, breaks: Breaks, leads: bool) -> Space
-    ensures { parts last next result ≡ true }
+    ensures { keeps_apart last next result ≡ true }
 {
     parted(last, next, wanted(last, next, breaks, leads))
 }
@@ -96,7 +96,7 @@ fn after_mark(last: Sort, breaks: Breaks, leads: bool) -> Space {
 
 /// The same, or the least that keeps the two pieces apart: a line comment ends with its line, and two scalars are not one.
 fn parted(last: Sort, next: Sort, space: Space) -> Space
-    ensures { parts last next result ≡ true }
+    ensures { keeps_apart last next result ≡ true }
 {
     match (last, next, space) {
         (Sort::Line, _, Space::None | Space::Blank) => Space::Line,

@@ -7,7 +7,7 @@ use Rattle.facet_json_lint.specs.declared.arguments.Language.{Language}
 use Rattle.facet_json_lint.specs.declared.arguments.Language.TheVariants.{Plain, Jsonc, Strict}
 
 -- All of the source is one document, with nothing but a gap around it.
-abbrev pub IsDocument : Language → List ℕ → Type 0
-IsDocument Plain source = HasOneDocument source plain
-IsDocument Jsonc source = HasOneDocument source jsonc
-IsDocument Strict source = IsStrict source
+abbrev pub IsWholeSource : Language → List ℕ → Type 0
+IsWholeSource Plain source = HasOneDocument source plain
+IsWholeSource Jsonc source = HasOneDocument source jsonc
+IsWholeSource Strict source = IsStrict source

@@ -3,7 +3,7 @@
 ghost use Rattle.std.specs.Prelude.{OnOk, IfErr};
 ghost use Rattle.facet_json.specs.FormatViews.{refusal_of};
 ghost use Rattle.facet_json.specs.Reading.{LacksMemory};
-ghost use Rattle.facet_json_lint.specs.Checked.{IsDocument};
+ghost use Rattle.facet_json_lint.specs.Checked.{IsWholeSource};
 
 use crate::arguments::Language;
 use facet_json::scanner::Mode;
@@ -63,8 +63,8 @@ impl Fault {
 ///
 /// As `check_whole`, and where RFC 8259 alone is read as `check_strict`.
 pub fn check(alloc: Global, language: Language, source: &[u8]) -> Result<(), Fault>
-    ensures document { OnOk result (IsDocument language source.now) }
-    ensures only { IsDocument language source.now → IfErr result (λ fault. LacksMemory (refusal_of fault.error)) }
+    ensures document { OnOk result (IsWholeSource language source.now) }
+    ensures only { IsWholeSource language source.now → IfErr result (λ fault. LacksMemory (refusal_of fault.error)) }
 {
     match checked(alloc, language, source) {
         Ok(()) => Ok(()),
@@ -81,8 +81,8 @@ fn checked(
     language: Language,
     source: &[u8],
 ) -> Result<(), DeserializeError<'static>>
-    ensures document { OnOk result (IsDocument language source.now) }
-    ensures only { IsDocument language source.now → IfErr result (λ error. LacksMemory (refusal_of error)) }
+    ensures document { OnOk result (IsWholeSource language source.now) }
+    ensures only { IsWholeSource language source.now → IfErr result (λ error. LacksMemory (refusal_of error)) }
 {
     match language {
         Language::Plain => check_whole(alloc, source, Mode::Plain),
@@ -101,8 +101,8 @@ pub fn formatted(
     language: Language,
     source: &[u8],
 ) -> Result<Vec<u8>, DeserializeError<'static>>
-    ensures document { OnOk result (IsDocument language source.now) }
-    ensures only { IsDocument language source.now → IfErr result (λ error. LacksMemory (refusal_of error)) }
+    ensures document { OnOk result (IsWholeSource language source.now) }
+    ensures only { IsWholeSource language source.now → IfErr result (λ error. LacksMemory (refusal_of error)) }
 {
     let options = FormatOptions::new();
     match language {

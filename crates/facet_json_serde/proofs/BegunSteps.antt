@@ -11,7 +11,7 @@ use Rattle.facet_json_serializer.specs.TreeCalls.{tree_calls}
 use Rattle.facet_json_serializer.proofs.CallsTaken.{tree_taken}
 use Rattle.facet_json_serde.specs.declared.stage.Stage.{Stage}
 use Rattle.facet_json_serde.specs.declared.stage.Stage.TheVariants.{Value, Whole, Item, Key, Named}
-use Rattle.facet_json_serde.specs.Begun.{IsFormed, Level, in_items, in_members, Begun, within, whole, levels_calls, begun_calls, awaits_value, IsSound, with_item, with_member, put}
+use Rattle.facet_json_serde.specs.Begun.{IsFormed, Level, in_items, in_members, Begun, within, whole, levels_calls, begun_calls, awaits_value, AreSound, with_item, with_pair, put}
 use Rattle.facet_format.specs.Event.{Scalar, borrowed, owned}
 use Rattle.facet_format.specs.Event as event
 use Rattle.facet_json_document.specs.Tree as trees
@@ -19,7 +19,7 @@ use Rattle.std.specs.Str.{is_utf8}
 use Rattle.facet_json_document.specs.AsRead.{WellFormed, ItemsWellFormed, MembersWellFormed, RawParts, RawItems, RawMembers, IsBlankIndent}
 use Rattle.facet_json_document.specs.ReadBack.{IsReadBack}
 use Rattle.facet_json_document.proofs.Values.TreeTexts.{written_is_read}
-use Rattle.facet_json_serde.specs.OneValue.{IsTree, takes_value, after_value, stage_within, stage_of, stages_around, around_of, sound_of, HasBegun, IsBegun, IsTextOfTree}
+use Rattle.facet_json_serde.specs.OneValue.{IsTree, takes_value, stage_after_value, stage_within, stage_begun, stages_around, around_of, sound_of, BegunValue, IsBegun, IsTextOfTree}
 use Rattle.facet_json_serde.proofs.BegunCalls.{value_stands, key_begins, list_begins, struct_begins, list_ends, struct_ends}
 
 -- nothing is written
@@ -38,15 +38,15 @@ pub record GoesOn (call : SerializerCall) (b : Begun) (stage : Stage) (around : 
   pub then : Begun
   pub calls : begun_calls then ≡ begun_calls b ++ call ∷ []
   pub sound : sound_of then
-  pub at_stage : stage ≡ stage_of then
+  pub at_stage : stage ≡ stage_begun then
   pub is_around : around ≡ around_of then
 
 -- How every value goes on that is begun so.
 abbrev pub GoesOnFrom : SerializerCall → Stage → List Stage → Stage → List Stage → Type 0
-GoesOnFrom call stage around after outer = (b : Begun) → sound_of b → stage ≡ stage_of b → around ≡ around_of b → GoesOn call b after outer
+GoesOnFrom call stage around after outer = (b : Begun) → sound_of b → stage ≡ stage_begun b → around ≡ around_of b → GoesOn call b after outer
 
 has_more : (o : Options) (old new : Option Writing) (call : SerializerCall) (stage after : Stage) (around outer : List Stage) → Takes old call new
-    → GoesOnFrom call stage around after outer → HasBegun o old stage around → HasBegun o new after outer
+    → GoesOnFrom call stage around after outer → BegunValue o old stage around → BegunValue o new after outer
 has_more o old new call stage after around outer step goes has =
     let next = goes has.begun has.sound has.at_stage has.is_around in
     record {
@@ -98,7 +98,7 @@ item-formed (tree first others) t before formed =
     ((before.0.0, after.0), (before.1.0, after.1))
 
 member-formed : (members : Pairs) (key : List ℕ) (t : Tree) → is_utf8 key ≡ true → IsFormed (pairs members) → IsFormed t
-    → IsFormed (pairs (with_member members key t))
+    → IsFormed (pairs (with_pair members key t))
 unfolding WellFormed MembersWellFormed RawParts RawMembers
 member-formed no_pairs key t utf8 before formed = ((utf8, formed.0, tt), (formed.1, tt))
 member-formed (pair name value others) key t utf8 before formed =
@@ -121,8 +121,8 @@ awaits-takes (in_items items ∷ around) = refl
 awaits-takes (in_members members None ∷ around) = refl
 awaits-takes (in_members members (Some key) ∷ around) = refl
 
-put-goes_on : (t : Tree) (call : SerializerCall) (b : Begun) (levels : List Level) → IsFormed t → awaits_value levels ≡ true → IsSound levels
-    → begun_calls (put t levels) ≡ begun_calls b ++ call ∷ [] → GoesOn call b (after_value (stage_within levels)) (stages_around levels)
+put-goes_on : (t : Tree) (call : SerializerCall) (b : Begun) (levels : List Level) → IsFormed t → awaits_value levels ≡ true → AreSound levels
+    → begun_calls (put t levels) ≡ begun_calls b ++ call ∷ [] → GoesOn call b (stage_after_value (stage_within levels)) (stages_around levels)
 put-goes_on t call b [] formed awaits sound calls = record { then = whole t; calls = calls; sound = formed; at_stage = refl; is_around = refl }
 put-goes_on t call b (in_items items ∷ around) formed awaits sound calls = record {
   then = within (in_items (with_item items t) ∷ around);
@@ -133,22 +133,22 @@ put-goes_on t call b (in_items items ∷ around) formed awaits sound calls = rec
 }
 put-goes_on t call b (in_members members None ∷ around) formed awaits sound calls = absurd (true≢false (sym awaits))
 put-goes_on t call b (in_members members (Some key) ∷ around) formed awaits sound calls = record {
-  then = within (in_members (with_member members key t) None ∷ around);
+  then = within (in_members (with_pair members key t) None ∷ around);
   calls = calls;
   sound = (sound.0, member-formed members key t sound.1.0 sound.1.1 formed, sound.2);
   at_stage = refl;
   is_around = refl;
 }
 
-value-at : (t : Tree) (call : SerializerCall) (b : Begun) → IsFormed t → tree_calls t ≡ call ∷ [] → sound_of b → takes_value (stage_of b) ≡ true
-    → GoesOn call b (after_value (stage_of b)) (around_of b)
+value-at : (t : Tree) (call : SerializerCall) (b : Begun) → IsFormed t → tree_calls t ≡ call ∷ [] → sound_of b → takes_value (stage_begun b) ≡ true
+    → GoesOn call b (stage_after_value (stage_begun b)) (around_of b)
 value-at t call (whole u) formed one sound may = absurd (true≢false (sym may))
 value-at t call (within levels) formed one sound may =
     let awaits = awaits-takes levels ∙ may in
     put-goes_on t call (within levels) levels formed awaits sound (value_stands t levels awaits ∙ ap (λ calls. levels_calls levels ++ calls) one)
 
 pub value-goes_on : (t : Tree) (call : SerializerCall) (stage : Stage) (around : List Stage) → IsFormed t → tree_calls t ≡ call ∷ [] → takes_value stage ≡ true
-    → GoesOnFrom call stage around (after_value stage) around
+    → GoesOnFrom call stage around (stage_after_value stage) around
 value-goes_on t call stage around formed one may b sound at_stage is_around =
     rw (at_stage, is_around) (value-at t call b formed one sound (ap takes_value (sym at_stage) ∙ may))
 
@@ -178,7 +178,7 @@ is_key Item = false
 is_key Key = true
 is_key Named = false
 
-key-at : (key : List ℕ) (b : Begun) → is_utf8 key ≡ true → sound_of b → is_key (stage_of b) ≡ true → GoesOn (field_key key) b Named (around_of b)
+key-at : (key : List ℕ) (b : Begun) → is_utf8 key ≡ true → sound_of b → is_key (stage_begun b) ≡ true → GoesOn (field_key key) b Named (around_of b)
 key-at key (whole t) utf8 sound is = absurd (true≢false (sym is))
 key-at key (within []) utf8 sound is = absurd (true≢false (sym is))
 key-at key (within (in_items items ∷ around)) utf8 sound is = absurd (true≢false (sym is))
@@ -191,7 +191,7 @@ key-goes_on key stage around utf8 is b sound at_stage is_around = rw (is_around)
 
 -- ---- containers that begin
 
-list-at : (b : Begun) → sound_of b → takes_value (stage_of b) ≡ true → GoesOn begin_seq b Item (around_of b ++ stage_of b ∷ [])
+list-at : (b : Begun) → sound_of b → takes_value (stage_begun b) ≡ true → GoesOn begin_seq b Item (around_of b ++ stage_begun b ∷ [])
 list-at (whole t) sound may = absurd (true≢false (sym may))
 list-at (within levels) sound may =
     record { then = within (in_items no_trees ∷ levels); calls = list_begins levels; sound = (awaits-takes levels ∙ may, no_items-formed, sound); at_stage = refl; is_around = refl }
@@ -199,7 +199,7 @@ list-at (within levels) sound may =
 pub list-goes_on : (stage : Stage) (around : List Stage) → takes_value stage ≡ true → GoesOnFrom begin_seq stage around Item (around ++ stage ∷ [])
 list-goes_on stage around may b sound at_stage is_around = rw (at_stage, is_around) (list-at b sound (ap takes_value (sym at_stage) ∙ may))
 
-struct-at : (b : Begun) → sound_of b → takes_value (stage_of b) ≡ true → GoesOn begin_struct b Key (around_of b ++ stage_of b ∷ [])
+struct-at : (b : Begun) → sound_of b → takes_value (stage_begun b) ≡ true → GoesOn begin_struct b Key (around_of b ++ stage_begun b ∷ [])
 struct-at (whole t) sound may = absurd (true≢false (sym may))
 struct-at (within levels) sound may =
     record { then = within (in_members no_pairs None ∷ levels); calls = struct_begins levels; sound = (awaits-takes levels ∙ may, no_members-formed, sound); at_stage = refl; is_around = refl }
@@ -252,15 +252,15 @@ longer : (before : List Stage) (s : Stage) → 0 < length (before ++ s ∷ [])
 longer [] s = omega arith
 longer (t ∷ others) s = omega arith
 
-ended-at : (t : Tree) (call : SerializerCall) (b : Begun) (outer : List Level) (rest : List Stage) (popped : Option Stage) → IsFormed t → awaits_value outer ≡ true → IsSound outer
+ended-at : (t : Tree) (call : SerializerCall) (b : Begun) (outer : List Level) (rest : List Stage) (popped : Option Stage) → IsFormed t → awaits_value outer ≡ true → AreSound outer
     → begun_calls (put t outer) ≡ begun_calls b ++ call ∷ [] → stages_around outer ++ stage_within outer ∷ [] ≡ rest ++ option_to_list popped
-    → (0 < length (stages_around outer ++ stage_within outer ∷ []) → IsSome popped) → GoesOn call b (after_value (unwrap_or popped Value)) rest
+    → (0 < length (stages_around outer ++ stage_within outer ∷ []) → IsSome popped) → GoesOn call b (stage_after_value (unwrap_or popped Value)) rest
 ended-at t call b outer rest popped formed awaits sound calls same some =
     let off = pops (stages_around outer) rest (stage_within outer) popped same (some (longer (stages_around outer) (stage_within outer))) in
     rw (sym off.0, sym off.1) (put-goes_on t call b outer formed awaits sound calls)
 
-end-list-at : (b : Begun) (rest : List Stage) (popped : Option Stage) → sound_of b → is_item (stage_of b) ≡ true → around_of b ≡ rest ++ option_to_list popped
-    → (0 < length (around_of b) → IsSome popped) → GoesOn end_seq b (after_value (unwrap_or popped Value)) rest
+end-list-at : (b : Begun) (rest : List Stage) (popped : Option Stage) → sound_of b → is_item (stage_begun b) ≡ true → around_of b ≡ rest ++ option_to_list popped
+    → (0 < length (around_of b) → IsSome popped) → GoesOn end_seq b (stage_after_value (unwrap_or popped Value)) rest
 end-list-at (whole t) rest popped sound is same some = absurd (true≢false (sym is))
 end-list-at (within []) rest popped sound is same some = absurd (true≢false (sym is))
 end-list-at (within (in_items items ∷ outer)) rest popped sound is same some =
@@ -269,12 +269,12 @@ end-list-at (within (in_members members None ∷ outer)) rest popped sound is sa
 end-list-at (within (in_members members (Some key) ∷ outer)) rest popped sound is same some = absurd (true≢false (sym is))
 
 pub list_end-goes_on : (stage : Stage) (around rest : List Stage) (popped : Option Stage) → stage ≡ Item → around ≡ rest ++ option_to_list popped
-    → (0 < length around → IsSome popped) → GoesOnFrom end_seq stage around (after_value (unwrap_or popped Value)) rest
+    → (0 < length around → IsSome popped) → GoesOnFrom end_seq stage around (stage_after_value (unwrap_or popped Value)) rest
 list_end-goes_on stage around rest popped is same some b sound at_stage is_around =
     end-list-at b rest popped sound (ap is_item (sym at_stage ∙ is)) (sym is_around ∙ same) (subst (λ l. 0 < length l → IsSome popped) is_around some)
 
-end-struct-at : (b : Begun) (rest : List Stage) (popped : Option Stage) → sound_of b → is_key (stage_of b) ≡ true → around_of b ≡ rest ++ option_to_list popped
-    → (0 < length (around_of b) → IsSome popped) → GoesOn end_struct b (after_value (unwrap_or popped Value)) rest
+end-struct-at : (b : Begun) (rest : List Stage) (popped : Option Stage) → sound_of b → is_key (stage_begun b) ≡ true → around_of b ≡ rest ++ option_to_list popped
+    → (0 < length (around_of b) → IsSome popped) → GoesOn end_struct b (stage_after_value (unwrap_or popped Value)) rest
 end-struct-at (whole t) rest popped sound is same some = absurd (true≢false (sym is))
 end-struct-at (within []) rest popped sound is same some = absurd (true≢false (sym is))
 end-struct-at (within (in_items items ∷ outer)) rest popped sound is same some = absurd (true≢false (sym is))
@@ -283,7 +283,7 @@ end-struct-at (within (in_members members None ∷ outer)) rest popped sound is 
 end-struct-at (within (in_members members (Some key) ∷ outer)) rest popped sound is same some = absurd (true≢false (sym is))
 
 pub struct_end-goes_on : (stage : Stage) (around rest : List Stage) (popped : Option Stage) → stage ≡ Key → around ≡ rest ++ option_to_list popped
-    → (0 < length around → IsSome popped) → GoesOnFrom end_struct stage around (after_value (unwrap_or popped Value)) rest
+    → (0 < length around → IsSome popped) → GoesOnFrom end_struct stage around (stage_after_value (unwrap_or popped Value)) rest
 struct_end-goes_on stage around rest popped is same some b sound at_stage is_around =
     end-struct-at b rest popped sound (ap is_key (sym at_stage ∙ is)) (sym is_around ∙ same) (subst (λ l. 0 < length l → IsSome popped) is_around some)
 
@@ -297,7 +297,7 @@ is_whole Key = false
 is_whole Named = false
 
 whole-text : (o : Options) (b : Begun) (now : Option Writing) (w : Writing) (bytes : List ℕ) → TakesAll Takes (Some (fresh o)) (begun_calls b) now
-    → sound_of b → is_whole (stage_of b) ≡ true → now ≡ Some w → bytes ≡ w.written
+    → sound_of b → is_whole (stage_begun b) ≡ true → now ≡ Some w → bytes ≡ w.written
     → (t : Tree) × (bytes ≡ text o 0 t) × (IsBlankIndent o → IsReadBack o t bytes)
 whole-text o (whole t) now w bytes taken formed is left all =
     let same : bytes ≡ text o 0 t = all ∙ ap (λ n. n.written) (same_Some _ _ (sym left ∙ tree_taken (fresh o) t now taken)) in

@@ -7,15 +7,15 @@ use Rattle.facet_json_document.specs.Now.{Now}
 use Rattle.serde.specs.Names.{Finds}
 use Rattle.serde.specs.declared.name.Name.{Name}
 use Rattle.facet_json_serde.specs.declared.json.Json.{Json}
-use Rattle.facet_json_serde.specs.Ahead.{Reads, Picks, IsKey, IsText}
+use Rattle.facet_json_serde.specs.Ahead.{StepReads, Picks, HoldsKey, HoldsText}
 
 -- The key that was read stands for this name first.
-pub key-picks : (old new : Json) (names : List Name) (key input : List ℕ) (at : ℕ) → Reads old (λ given. IsKey given.kind key) new → Finds names key at →
+pub key-picks : (old new : Json) (names : List Name) (key input : List ℕ) (at : ℕ) → StepReads old (λ given. HoldsKey given.kind key) new → Finds names key at →
     Picks old input true names at new
 key-picks old new names key input at reads finds now stands = let r = reads now stands in (r.0, r.1, r.2, r.3, (key, r.4, finds))
 
 -- And a text.
-pub text-picks : (old new : Json) (names : List Name) (key input : List ℕ) (at : ℕ) → Reads old (λ given. IsText given.kind key) new → Finds names key at →
+pub text-picks : (old new : Json) (names : List Name) (key input : List ℕ) (at : ℕ) → StepReads old (λ given. HoldsText given.kind key) new → Finds names key at →
     Picks old input false names at new
 text-picks old new names key input at reads finds now stands = let r = reads now stands in (r.0, r.1, r.2, r.3, (key, r.4, finds))
 

@@ -17,45 +17,45 @@ use Rattle.facet_json_serde.specs.declared.json.Ahead.TheVariants as ahead
 use Rattle.facet_json_serde.specs.declared.json.Json.{Json}
 
 -- Before the event that is ahead, the parser stood there. A format that stopped stands nowhere.
-abbrev pub StandsBefore : Ahead → Now → Now → Type 0
-StandsBefore ahead.Nothing parser now = parser ≡ now
-StandsBefore (ahead.Event held) parser now = PassesNext now (event_of held.0) parser
-StandsBefore ahead.Back parser now = parser ≡ now
-StandsBefore (ahead.Stopped kind span) parser now = ⊥
+abbrev pub StandsWithAhead : Ahead → Now → Now → Type 0
+StandsWithAhead ahead.Nothing parser now = parser ≡ now
+StandsWithAhead (ahead.Event held) parser now = PassesNext now (event_of held.0) parser
+StandsWithAhead ahead.Back parser now = parser ≡ now
+StandsWithAhead (ahead.Stopped kind span) parser now = ⊥
 
-abbrev pub Stands : Json → Now → Type 0
-Stands json now = StandsBefore json.ahead json.parser now
+abbrev pub JsonStands : Json → Now → Type 0
+JsonStands json now = StandsWithAhead json.ahead json.parser now
 
 -- ---- what a step does to where it stands
 
 -- Wherever the format stood, it stands there.
 abbrev pub Stays : Json → Json → Type 0
-Stays old new = (now : Now) → Stands old now → Stands new now
+Stays old new = (now : Now) → JsonStands old now → JsonStands new now
 
 -- Wherever the format stood, such an event came next, and it stands after it.
-abbrev pub Reads : Json → (Event → Type 0) → Json → Type 0
-Reads old Is new = (now : Now) → Stands old now → (given : Event) × (after : Now) × Stands new after × PassesNext now given after × Is given
+abbrev pub StepReads : Json → (Event → Type 0) → Json → Type 0
+StepReads old Is new = (now : Now) → JsonStands old now → (given : Event) × (after : Now) × JsonStands new after × PassesNext now given after × Is given
 
 -- Wherever the format stood, such an event comes next, and it stands there.
-abbrev pub Shows : Json → (Event → Type 0) → Json → Type 0
-Shows old Is new = (now : Now) → Stands old now → (shown : Event) × (after : Now) × Stands new now × PassesNext now shown after × Is shown
+abbrev pub StepShows : Json → (Event → Type 0) → Json → Type 0
+StepShows old Is new = (now : Now) → JsonStands old now → (shown : Event) × (after : Now) × JsonStands new now × PassesNext now shown after × Is shown
 
 -- The event came next, and the parser stands after it.
-abbrev pub Passes : Json → Event → Json → Type 0
-Passes old given new = (now : Now) → Stands old now → PassesNext now given new.parser
+abbrev pub StepPasses : Json → Event → Json → Type 0
+StepPasses old given new = (now : Now) → JsonStands old now → PassesNext now given new.parser
 
 -- ---- which event of the parser's is which of serde's
 
 -- a key of these bytes
-abbrev pub IsKey : EventKind → List ℕ → Type 0
-IsKey (field_key key) v = bytes_of key ≡ v
-IsKey _ v = ⊥
+abbrev pub HoldsKey : EventKind → List ℕ → Type 0
+HoldsKey (field_key key) v = bytes_of key ≡ v
+HoldsKey _ v = ⊥
 
 -- a text of these bytes, as a value or as a key
-abbrev pub IsText : EventKind → List ℕ → Type 0
-IsText (scalar (text t)) v = bytes_of t ≡ v
-IsText (field_key key) v = bytes_of key ≡ v
-IsText _ v = ⊥
+abbrev pub HoldsText : EventKind → List ℕ → Type 0
+HoldsText (scalar (text t)) v = bytes_of t ≡ v
+HoldsText (field_key key) v = bytes_of key ≡ v
+HoldsText _ v = ⊥
 
 -- true, false, or a key of these letters
 abbrev pub IsBool : EventKind → Bool → Type 0
@@ -105,13 +105,13 @@ abbrev pub AnyKey : EventKind → Type 0
 AnyKey (field_key key) = ⊤
 AnyKey _ = ⊥
 
-abbrev pub BeginsList : EventKind → Type 0
-BeginsList (sequence_start kind) = ⊤
-BeginsList _ = ⊥
+abbrev pub IsListBegin : EventKind → Type 0
+IsListBegin (sequence_start kind) = ⊤
+IsListBegin _ = ⊥
 
-abbrev pub BeginsMap : EventKind → Type 0
-BeginsMap (struct_start kind) = ⊤
-BeginsMap _ = ⊥
+abbrev pub IsMapBegin : EventKind → Type 0
+IsMapBegin (struct_start kind) = ⊤
+IsMapBegin _ = ⊥
 
 -- what is read of such an input
 abbrev pub Means : List ℕ → Event → serde.Event → Type 0
@@ -120,12 +120,12 @@ Means input given (serde.signed v) = IsSigned given.kind v
 Means input given (serde.unsigned v) = IsUnsigned given.kind v
 Means input given (serde.single x) = IsFloat binary32 input given x
 Means input given (serde.double x) = IsFloat binary64 input given x
-Means input given (serde.character c) = IsText given.kind (encode_utf8 c)
-Means input given (serde.text v) = IsText given.kind v
+Means input given (serde.character c) = HoldsText given.kind (encode_utf8 c)
+Means input given (serde.text v) = HoldsText given.kind v
 Means input given serde.nothing = given.kind ≡ scalar null
-Means input given (serde.seq_begins n) = BeginsList given.kind
+Means input given (serde.seq_begins n) = IsListBegin given.kind
 Means input given serde.seq_ends = given.kind ≡ sequence_end
-Means input given (serde.map_begins n) = BeginsMap given.kind
+Means input given (serde.map_begins n) = IsMapBegin given.kind
 Means input given serde.map_ends = given.kind ≡ struct_end
 Means input given _ = ⊤
 
@@ -133,18 +133,18 @@ Means input given _ = ⊤
 
 -- A text of these bytes was read, or a list, of which no more is said than that it began.
 abbrev pub ReadsBytes : Json → List ℕ → Json → Type 0
-ReadsBytes old v new = (now : Now) → Stands old now → (given : Event) × (after : Now) × PassesNext now given after × ((Stands new after × IsText given.kind v) ⊎ BeginsList given.kind)
+ReadsBytes old v new = (now : Now) → JsonStands old now → (given : Event) × (after : Now) × PassesNext now given after × ((JsonStands new after × HoldsText given.kind v) ⊎ IsListBegin given.kind)
 
 -- An entry begins where a key comes, which is read by the next step.
-abbrev pub Gives : Json → List ℕ → serde.Event → Json → Type 0
-Gives old input serde.key_begins new = Shows old (λ shown. AnyKey shown.kind) new
-Gives old input (serde.octets v) new = ReadsBytes old v new
-Gives old input e new = Reads old (λ given. Means input given e) new
+abbrev pub StepGives : Json → List ℕ → serde.Event → Json → Type 0
+StepGives old input serde.key_begins new = StepShows old (λ shown. AnyKey shown.kind) new
+StepGives old input (serde.octets v) new = ReadsBytes old v new
+StepGives old input e new = StepReads old (λ given. Means input given e) new
 
 -- a key or a text, and the first of the names that it stands for
-abbrev pub IsNamed : Bool → List Name → ℕ → EventKind → Type 0
-IsNamed true names at given = (key : List ℕ) × IsKey given key × Finds names key at
-IsNamed false names at given = (key : List ℕ) × IsText given key × Finds names key at
+abbrev pub HoldsName : Bool → List Name → ℕ → EventKind → Type 0
+HoldsName true names at given = (key : List ℕ) × HoldsKey given key × Finds names key at
+HoldsName false names at given = (key : List ℕ) × HoldsText given key × Finds names key at
 
 abbrev pub Picks : Json → List ℕ → Bool → List Name → ℕ → Json → Type 0
-Picks old input is_key names at new = Reads old (λ given. IsNamed is_key names at given.kind) new
+Picks old input is_key names at new = StepReads old (λ given. HoldsName is_key names at given.kind) new

@@ -54,9 +54,9 @@ HoldsFormed (in_members members None) = IsFormed (pairs members)
 HoldsFormed (in_members members (Some key)) = (is_utf8 key ≡ true) × IsFormed (pairs members)
 
 -- Each container that is open stands where a value was awaited, and holds trees of Rust's.
-abbrev pub IsSound : List Level → Type 0
-IsSound [] = ⊤
-IsSound (level ∷ around) = (awaits_value around ≡ true) × HoldsFormed level × IsSound around
+abbrev pub AreSound : List Level → Type 0
+AreSound [] = ⊤
+AreSound (level ∷ around) = (awaits_value around ≡ true) × HoldsFormed level × AreSound around
 
 -- ---- what a value adds
 
@@ -64,16 +64,16 @@ abbrev pub with_item : Trees → Tree → Trees
 with_item no_trees t = tree t no_trees
 with_item (tree first others) t = tree first (with_item others t)
 
-abbrev pub with_member : Pairs → List ℕ → Tree → Pairs
-with_member no_pairs key t = pair key t no_pairs
-with_member (pair name value others) key t = pair name value (with_member others key t)
+abbrev pub with_pair : Pairs → List ℕ → Tree → Pairs
+with_pair no_pairs key t = pair key t no_pairs
+with_pair (pair name value others) key t = pair name value (with_pair others key t)
 
 -- the tree stands where a value is awaited
 abbrev pub put : Tree → List Level → Begun
 put t [] = whole t
 put t (in_items items ∷ around) = within (in_items (with_item items t) ∷ around)
 put t (in_members members None ∷ around) = within (in_members members None ∷ around)
-put t (in_members members (Some key) ∷ around) = within (in_members (with_member members key t) None ∷ around)
+put t (in_members members (Some key) ∷ around) = within (in_members (with_pair members key t) None ∷ around)
 
 -- ---- laws
 

@@ -12,21 +12,21 @@ use Rattle.facet_json_serde.specs.declared.streams.StreamError.TheVariants.{Json
 abbrev pub detail_text : Detail → List ℕ
 detail_text d = inline_text d.0
 
--- The message of a kind: the reader's own, or one of this crate's.
-abbrev pub message : ErrorKind → Option (List ℕ)
-message (Read refused) = read_text (complaint_of refused)
-message TrailingCharacters = Some (codes "trailing characters")
-message (MissingField name) = Some (codes "missing required field `" ++ (detail_text name ++ codes "`"))
-message (DuplicateField name) = Some (codes "duplicate field `" ++ (detail_text name ++ codes "`"))
-message UnknownField = Some (codes "unknown field")
-message UnknownVariant = Some (codes "unknown variant")
-message InvalidLength = Some (codes "invalid length")
-message InvalidValue = Some (codes "invalid value")
-message KeyMustBeAString = Some (codes "key must be a string")
-message NotOneValue = Some (codes "not one value")
-message (Custom text) = Some (detail_text text)
+-- The kind_message of a kind: the reader's own, or one of this crate's.
+abbrev pub kind_message : ErrorKind → Option (List ℕ)
+kind_message (Read refused) = read_text (complaint_of refused)
+kind_message TrailingCharacters = Some (codes "trailing characters")
+kind_message (MissingField name) = Some (codes "missing required field `" ++ (detail_text name ++ codes "`"))
+kind_message (DuplicateField name) = Some (codes "duplicate field `" ++ (detail_text name ++ codes "`"))
+kind_message UnknownField = Some (codes "unknown field")
+kind_message UnknownVariant = Some (codes "unknown variant")
+kind_message InvalidLength = Some (codes "invalid length")
+kind_message InvalidValue = Some (codes "invalid value")
+kind_message KeyMustBeAString = Some (codes "key must be a string")
+kind_message NotOneValue = Some (codes "not one value")
+kind_message (Custom text) = Some (detail_text text)
 
 -- Of a stream's, where it does not hang on what the stream's own error says.
 abbrev pub stream_message : StreamError → Option (List ℕ)
-stream_message (Json refused) = message refused.kind
+stream_message (Json refused) = kind_message refused.kind
 stream_message (Io failed) = None

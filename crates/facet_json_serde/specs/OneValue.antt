@@ -16,7 +16,7 @@ use Rattle.facet_json_document.specs.Tree.{Tree}
 use Rattle.facet_json_serializer.specs.Serializer.{Writing, Takes}
 use Rattle.facet_json_serde.specs.declared.stage.Stage.{Stage}
 use Rattle.facet_json_serde.specs.declared.stage.Stage.TheVariants.{Value, Whole, Item, Key, Named}
-use Rattle.facet_json_serde.specs.Begun.{Level, in_items, in_members, Begun, within, whole, begun_calls, IsFormed, IsSound}
+use Rattle.facet_json_serde.specs.Begun.{Level, in_items, in_members, Begun, within, whole, begun_calls, IsFormed, AreSound}
 
 abbrev pub takes_value : Stage → Bool
 takes_value Value = true
@@ -25,12 +25,12 @@ takes_value Item = true
 takes_value Key = false
 takes_value Named = true
 
-abbrev pub after_value : Stage → Stage
-after_value Value = Whole
-after_value Whole = Whole
-after_value Item = Item
-after_value Key = Key
-after_value Named = Key
+abbrev pub stage_after_value : Stage → Stage
+stage_after_value Value = Whole
+stage_after_value Whole = Whole
+stage_after_value Item = Item
+stage_after_value Key = Key
+stage_after_value Named = Key
 
 -- what may come within these containers
 abbrev pub stage_within : List Level → Stage
@@ -39,9 +39,9 @@ stage_within (in_items items ∷ around) = Item
 stage_within (in_members members None ∷ around) = Key
 stage_within (in_members members (Some key) ∷ around) = Named
 
-abbrev pub stage_of : Begun → Stage
-stage_of (within levels) = stage_within levels
-stage_of (whole t) = Whole
+abbrev pub stage_begun : Begun → Stage
+stage_begun (within levels) = stage_within levels
+stage_begun (whole t) = Whole
 
 -- what may come around each container, the outermost first
 abbrev pub stages_around : List Level → List Stage
@@ -53,20 +53,20 @@ around_of (within levels) = stages_around levels
 around_of (whole t) = []
 
 abbrev pub sound_of : Begun → Type 0
-sound_of (within levels) = IsSound levels
+sound_of (within levels) = AreSound levels
 sound_of (whole t) = IsFormed t
 
 -- The serializer took the calls of a value that is begun so.
-pub record HasBegun (o : Options) (now : Option Writing) (stage : Stage) (around : List Stage) : Type 0 where
+pub record BegunValue (o : Options) (now : Option Writing) (stage : Stage) (around : List Stage) : Type 0 where
   pub begun : Begun
   pub taken : TakesAll Takes (Some (record { options = o; stack = []; written = [] })) (begun_calls begun) now
   pub sound : sound_of begun
-  pub at_stage : stage ≡ stage_of begun
+  pub at_stage : stage ≡ stage_begun begun
   pub is_around : around ≡ around_of begun
 
 -- Memory ran out, or a value is begun so.
 abbrev pub IsBegun : Options → Option Writing → Stage → List Stage → Type 0
-IsBegun o now stage around = ∥ (now ≡ None) ⊎ HasBegun o now stage around ∥₁
+IsBegun o now stage around = ∥ (now ≡ None) ⊎ BegunValue o now stage around ∥₁
 
 -- A tree of Rust's is written by this scalar alone. A text that is owned is none, since it is written as a borrowed one.
 abbrev pub IsTree : Scalar → Type 0

@@ -15,6 +15,6 @@ TellsWithin len (Json refused) = LiesWithin len refused.span
 TellsWithin len (Io failed) = ⊤
 
 -- The value was refused, and no stream failed.
-abbrev pub IsRefused : StreamError → Type 0
-IsRefused (Json refused) = ⊤
-IsRefused (Io failed) = ⊥
+abbrev pub IsNoFailure : StreamError → Type 0
+IsNoFailure (Json refused) = ⊤
+IsNoFailure (Io failed) = ⊥

@@ -4,7 +4,7 @@ ghost use Rattle.std.specs.Prelude.{◌≡◌, length};
 ghost use Rattle.std.specs.Option.{option_map};
 ghost use Rattle.facet_format.specs.Views.{span_of};
 ghost use Rattle.facet_json_core.specs.Report.{report_text};
-ghost use Rattle.facet_json_serde.specs.Messages.{message};
+ghost use Rattle.facet_json_serde.specs.Messages.{kind_message};
 ghost use Rattle.facet_json_serde.specs.Within.{LiesWithin};
 
 use crate::fault::{Detail, ReadFault, ReadFaultKind, Refusal, Sort, WriteFault};
@@ -175,7 +175,7 @@ pub struct Report<'a> {
 }
 
 impl fmt::Display for ErrorKind<'static> {
-    ghost output = { message };
+    ghost output = { kind_message };
 
     fn fmt<W: fmt::Write>(&self, f: &mut fmt::Formatter<W>) -> fmt::Result {
         match self {
@@ -197,7 +197,7 @@ impl fmt::Display for ErrorKind<'static> {
 }
 
 impl fmt::Display for Error<'static> {
-    ghost output = { λ error. message error.kind };
+    ghost output = { λ error. kind_message error.kind };
 
     fn fmt<W: fmt::Write>(&self, f: &mut fmt::Formatter<W>) -> fmt::Result {
         fmt::Display::fmt(&self.kind, f)
@@ -205,7 +205,7 @@ impl fmt::Display for Error<'static> {
 }
 
 impl fmt::Display for Report<'_> {
-    ghost output = { λ report. report_text (message report.error.kind) report.source.now (option_map span_of report.error.span) };
+    ghost output = { λ report. report_text (kind_message report.error.kind) report.source.now (option_map span_of report.error.span) };
 
     fn fmt<W: fmt::Write>(&self, f: &mut fmt::Formatter<W>) -> fmt::Result {
         match self.error.span {

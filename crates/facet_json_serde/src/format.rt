@@ -3,7 +3,7 @@
 ghost use Rattle.std.specs.Prelude.{◌≡◌, [], IfOk, OnOk, MatchBool, slice_range, string_bytes};
 ghost use Rattle.std.specs.Cow.{cow_str_bytes};
 ghost use Rattle.serde.specs.Event.{text, seq_ends};
-ghost use Rattle.facet_json_serde.specs.Ahead.{Gives, Picks, Reads, Stays, Shows, BeginsList};
+ghost use Rattle.facet_json_serde.specs.Ahead.{StepGives, Picks, StepReads, Stays, StepShows, IsListBegin};
 
 use crate::fault::{ReadFault, ReadFaultKind, Sort};
 use crate::found::kind_of;
@@ -37,7 +37,7 @@ impl<'de> Json<'de> {
     /// What the next event is read as, as a value or as a key.
     #[inline(never)]
     fn one<V: OfEvent>(&mut self, at_key: bool, input: &[u8]) -> Result<V, ReadFault>
-        ensures { IfOk result (λ v. Reads self.old (λ given. V.is input.now given v) self.new) }
+        ensures { IfOk result (λ v. StepReads self.old (λ given. V.is input.now given v) self.new) }
     {
         let event = self.take()?;
         match V::of_event(&event.0, at_key, input) {
@@ -49,7 +49,7 @@ impl<'de> Json<'de> {
     /// The same of a value that holds no others, by an event.
     #[inline(never)]
     fn scalar<V: OfEvent>(&mut self, input: &[u8]) -> Result<V, ReadFault>
-        ensures { IfOk result (λ v. Reads self.old (λ given. V.is input.now given v) self.new) }
+        ensures { IfOk result (λ v. StepReads self.old (λ given. V.is input.now given v) self.new) }
     {
         let at_key = self.at_key;
         self.at_key = false;
@@ -84,7 +84,7 @@ impl<'de> Json<'de> {
     /// A text in memory of its own, as a value or as a key, by an event.
     #[inline(never)]
     fn string_slowly(&mut self, alloc: Global, input: &[u8]) -> Result<String, ReadFault>
-        ensures { IfOk result (λ v. Gives self.old [] (text (string_bytes v)) self.new) }
+        ensures { IfOk result (λ v. StepGives self.old [] (text (string_bytes v)) self.new) }
     {
         owned(alloc, self.text(input)?)
     }
@@ -117,7 +117,7 @@ impl<'de> Json<'de> {
     /// A list of bytes.
     fn byte_list(&mut self, alloc: Global, input: &[u8]) -> Result<Vec<u8>, ReadFault>
         ensures { OnOk result
-            (Shows self.old (λ shown. BeginsList shown.kind) self.old) }
+            (StepShows self.old (λ shown. IsListBegin shown.kind) self.old) }
     {
         self.begin_seq(input)?;
         let mut bytes = Vec::new(alloc);
@@ -138,7 +138,7 @@ impl<'de> Format for Json<'de> {
 
     type Mark = usize;
 
-    ghost gives = { Gives };
+    ghost gives = { StepGives };
 
     ghost picks = { Picks };
 

@@ -2,7 +2,7 @@
 
 ghost use Rattle.std.specs.Prelude.{◌≡◌, IfSome};
 ghost use Rattle.facet_format.specs.Views.{event_kind_of, span_of};
-ghost use Rattle.facet_json_serde.specs.Ahead.{IsText, IsNumberText, bytes_at};
+ghost use Rattle.facet_json_serde.specs.Ahead.{HoldsText, IsNumberText, bytes_at};
 
 use crate::fault::Sort;
 use facet_format::{ParseEvent, ParseEventKind, ScalarValue, Span};
@@ -91,7 +91,7 @@ pub(crate) fn digits_in<'a>(
     at_key: bool,
     input: &[u8],
 ) -> Option<&'a str>
-    ensures { IfSome result (λ t. IsText (event_kind_of event.now.kind) t.now) }
+    ensures { IfSome result (λ t. HoldsText (event_kind_of event.now.kind) t.now) }
 {
     match &event.kind {
         ParseEventKind::Scalar(ScalarValue::Str(text)) if !is_quoted(input, event.span) => {

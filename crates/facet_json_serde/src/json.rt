@@ -7,7 +7,7 @@ ghost use Rattle.facet_json_document.specs.Move.{with_kept};
 ghost use Rattle.facet_json_document.specs.Next.{PassesNext};
 ghost use Rattle.facet_json_reader.specs.Inner.Soughts.{event_of_member};
 ghost use Rattle.serde.specs.Event.{nothing, map_ends};
-ghost use Rattle.facet_json_serde.specs.Ahead.{Stands, Stays, Reads, Passes, Gives, IsText, IsKey};
+ghost use Rattle.facet_json_serde.specs.Ahead.{JsonStands, Stays, StepReads, StepPasses, StepGives, HoldsText, HoldsKey};
 
 use crate::error::Error;
 use crate::fault::{ReadFault, ReadFaultKind, Sort};
@@ -130,7 +130,7 @@ fn passes_scalar<'de>(parser: &mut JsonParser<'de>) -> bool {
 impl<'de> Json<'de> {
     /// The format before the parser's next event. It does not allocate.
     pub fn new(alloc: Global, parser: JsonParser<'de>) -> Json<'de>
-        ensures { Stands result parser.entry }
+        ensures { JsonStands result parser.entry }
     {
         Json {
             alloc,
@@ -272,7 +272,7 @@ impl<'de> Json<'de> {
     #[inline(always)]
     pub(crate) fn wanted<W: Wanted<'de>>(&mut self) -> Option<W>
         ensures { MatchOption result (self.new ≡ self.old)
-            (λ w. Passes self.old (record { kind = W.kind w; span = span_of self.new.last }) self.new × (self.new.ahead ≡ Ahead.Nothing)) }
+            (λ w. StepPasses self.old (record { kind = W.kind w; span = span_of self.new.last }) self.new × (self.new.ahead ≡ Ahead.Nothing)) }
     {
         let Ahead::Nothing = &self.ahead else {
             return None;
@@ -286,7 +286,7 @@ impl<'de> Json<'de> {
     #[inline(always)]
     pub(crate) fn plain<W: Wanted<'de>>(&mut self) -> Option<W>
         ensures { MatchOption result (self.new ≡ self.old)
-            (λ w. Passes self.old (record { kind = W.kind w; span = span_of self.new.last }) self.new × (self.new.ahead ≡ Ahead.Nothing)) }
+            (λ w. StepPasses self.old (record { kind = W.kind w; span = span_of self.new.last }) self.new × (self.new.ahead ≡ Ahead.Nothing)) }
     {
         if self.at_key {
             return None;
@@ -306,7 +306,7 @@ impl<'de> Json<'de> {
     /// Takes the next event.
     #[inline(always)]
     pub(crate) fn take(&mut self) -> Result<Came<'de>, ReadFault>
-        ensures passes { IfOk result (λ e. Passes self.old (event_of e.0) self.new) }
+        ensures passes { IfOk result (λ e. StepPasses self.old (event_of e.0) self.new) }
         ensures free { OnOk result (self.new.ahead ≡ Ahead.Nothing) }
     {
         if let Ahead::Nothing = &self.ahead {
@@ -318,7 +318,7 @@ impl<'de> Json<'de> {
     /// Takes the event that is ahead, or keeps the mark to which it returned before it reads one.
     #[tactic(auto, using(crate::proofs::StepsRead::kept_passes))]
     fn take_ahead(&mut self) -> Result<Came<'de>, ReadFault>
-        ensures passes { IfOk result (λ e. Passes self.old (event_of e.0) self.new) }
+        ensures passes { IfOk result (λ e. StepPasses self.old (event_of e.0) self.new) }
         ensures free { OnOk result (self.new.ahead ≡ Ahead.Nothing) }
     {
         match std::mem::replace(&mut self.ahead, Ahead::Nothing) {
@@ -353,7 +353,7 @@ impl<'de> Json<'de> {
     /// Passes null, if it comes.
     #[inline(always)]
     pub(crate) fn passes_null(&mut self) -> Result<bool, ReadFault>
-        ensures { IfOk result (λ b. MatchBool b (Gives self.old [] nothing self.new)
+        ensures { IfOk result (λ b. MatchBool b (StepGives self.old [] nothing self.new)
             (Stays self.old self.new)) }
     {
         if self.other_comes(Sought::Null) {
@@ -368,7 +368,7 @@ impl<'de> Json<'de> {
     /// The same by a look ahead.
     #[inline(never)]
     fn passes_null_slowly(&mut self) -> Result<bool, ReadFault>
-        ensures { IfOk result (λ b. MatchBool b (Gives self.old [] nothing self.new)
+        ensures { IfOk result (λ b. MatchBool b (StepGives self.old [] nothing self.new)
             (Stays self.old self.new)) }
     {
         self.look()?;
@@ -389,9 +389,9 @@ impl<'de> Json<'de> {
     #[inline(always)]
     pub(crate) fn text(&mut self, input: &[u8]) -> Result<CowStr<'de>, ReadFault>
         ensures text { IfOk result
-            (λ t. Reads self.old (λ given. IsText given.kind (cow_str_bytes t)) self.new) }
+            (λ t. StepReads self.old (λ given. HoldsText given.kind (cow_str_bytes t)) self.new) }
         ensures key { self.old.at_key ≡ true → IfOk result
-            (λ t. Reads self.old (λ given. IsKey given.kind (cow_str_bytes t)) self.new) }
+            (λ t. StepReads self.old (λ given. HoldsKey given.kind (cow_str_bytes t)) self.new) }
     {
         if !self.at_key {
             if let Some(text) = self.wanted() {
@@ -405,9 +405,9 @@ impl<'de> Json<'de> {
     #[inline(never)]
     fn text_slowly(&mut self, input: &[u8]) -> Result<CowStr<'de>, ReadFault>
         ensures text { IfOk result
-            (λ t. Reads self.old (λ given. IsText given.kind (cow_str_bytes t)) self.new) }
+            (λ t. StepReads self.old (λ given. HoldsText given.kind (cow_str_bytes t)) self.new) }
         ensures key { self.old.at_key ≡ true → IfOk result
-            (λ t. Reads self.old (λ given. IsKey given.kind (cow_str_bytes t)) self.new) }
+            (λ t. StepReads self.old (λ given. HoldsKey given.kind (cow_str_bytes t)) self.new) }
     {
         let at_key = self.at_key;
         self.at_key = false;
@@ -423,7 +423,7 @@ impl<'de> Json<'de> {
     #[inline(never)]
     fn member(&mut self) -> Option<Member<'de>>
         ensures { MatchOption result (self.new ≡ self.old)
-            (λ m. Passes self.old (record { kind = event_of_member m; span = span_of self.new.last }) self.new × (self.new.ahead ≡ Ahead.Nothing)) }
+            (λ m. StepPasses self.old (record { kind = event_of_member m; span = span_of self.new.last }) self.new × (self.new.ahead ≡ Ahead.Nothing)) }
     {
         self.wanted()
     }
@@ -431,8 +431,8 @@ impl<'de> Json<'de> {
     /// A key, or `None` at the end of the map, which it takes.
     #[inline(always)]
     pub(crate) fn key(&mut self) -> Result<Option<CowStr<'de>>, ReadFault>
-        ensures { IfOk result (λ o. MatchOption o (Gives self.old [] map_ends self.new)
-            (λ key. Reads self.old (λ given. IsKey given.kind (cow_str_bytes key)) self.new)) }
+        ensures { IfOk result (λ o. MatchOption o (StepGives self.old [] map_ends self.new)
+            (λ key. StepReads self.old (λ given. HoldsKey given.kind (cow_str_bytes key)) self.new)) }
     {
         match self.member() {
             Some(Member::Key(name)) => Ok(Some(CowStr::Borrowed(name))),
@@ -444,8 +444,8 @@ impl<'de> Json<'de> {
     /// The same by an event.
     #[inline(never)]
     fn key_slowly(&mut self) -> Result<Option<CowStr<'de>>, ReadFault>
-        ensures { IfOk result (λ o. MatchOption o (Gives self.old [] map_ends self.new)
-            (λ key. Reads self.old (λ given. IsKey given.kind (cow_str_bytes key)) self.new)) }
+        ensures { IfOk result (λ o. MatchOption o (StepGives self.old [] map_ends self.new)
+            (λ key. StepReads self.old (λ given. HoldsKey given.kind (cow_str_bytes key)) self.new)) }
     {
         let ParseEvent { kind, span } = self.take()?.event();
         match kind {

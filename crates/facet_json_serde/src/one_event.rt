@@ -181,9 +181,9 @@ impl OfEvent for f64 {
 
 /// The beginning of a list.
 impl OfEvent for ListStart {
-    ghost use Rattle.facet_json_serde.specs.Ahead.{BeginsList};
+    ghost use Rattle.facet_json_serde.specs.Ahead.{IsListBegin};
 
-    ghost is = { λ input given start. BeginsList given.kind };
+    ghost is = { λ input given start. IsListBegin given.kind };
 
     fn of_event(event: &ParseEvent<'_>, _at_key: bool, _input: &[u8]) -> Result<ListStart, Unread> {
         match &event.kind {
@@ -195,9 +195,9 @@ impl OfEvent for ListStart {
 
 /// The beginning of a map.
 impl OfEvent for ObjectStart {
-    ghost use Rattle.facet_json_serde.specs.Ahead.{BeginsMap};
+    ghost use Rattle.facet_json_serde.specs.Ahead.{IsMapBegin};
 
-    ghost is = { λ input given start. BeginsMap given.kind };
+    ghost is = { λ input given start. IsMapBegin given.kind };
 
     fn of_event(
         event: &ParseEvent<'_>,

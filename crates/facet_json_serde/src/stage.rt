@@ -1,7 +1,7 @@
 //! What may come next of a value that is written.
 
 ghost use Rattle.std.specs.Prelude.{◌≡◌};
-ghost use Rattle.facet_json_serde.specs.OneValue.{takes_value, after_value};
+ghost use Rattle.facet_json_serde.specs.OneValue.{takes_value, stage_after_value};
 
 /// What may come next, in the innermost container that is open.
 #[derive(Clone, Copy)]
@@ -33,7 +33,7 @@ impl Stage {
     /// What may come once a value has come.
     #[inline(always)]
     pub(crate) fn after_value(self) -> Stage
-        ensures { result ≡ after_value self }
+        ensures { result ≡ stage_after_value self }
     {
         match self {
             Stage::Value | Stage::Whole => Stage::Whole,

@@ -6,7 +6,7 @@ ghost use Rattle.facet_json_serializer.specs.OptionsViews.{options_of};
 ghost use Rattle.facet_json_serde.specs.declared.streams.StreamError.TheVariants as stream;
 ghost use Rattle.facet_json_serde.specs.Messages.{stream_message};
 ghost use Rattle.facet_json_serde.specs.OneValue.{WritesTree};
-ghost use Rattle.facet_json_serde.specs.Within.{IsRefused, LiesWithin, TellsWithin};
+ghost use Rattle.facet_json_serde.specs.Within.{IsNoFailure, LiesWithin, TellsWithin};
 
 use crate::error::Error;
 use crate::reading::from_slice;
@@ -97,7 +97,7 @@ pub fn to_writer<'t, W: Write, T: Serialize>(
     value: &T,
 ) -> Result<(), StreamError<'t>>
     ensures written { OnOk result (WritesTree default_options (W.contents writer.old) (W.contents writer.new)) }
-    ensures refused { IfErr result (λ e. IsRefused e → writer.new ≡ writer.old) }
+    ensures refused { IfErr result (λ e. IsNoFailure e → writer.new ≡ writer.old) }
 {
     to_writer_with_options(alloc, writer, value, &SerializeOptions::new())
 }
@@ -114,7 +114,7 @@ pub fn to_writer_with_options<'t, W: Write, T: Serialize>(
     options: &SerializeOptions<'_>,
 ) -> Result<(), StreamError<'t>>
     ensures written { OnOk result (WritesTree (options_of options.now) (W.contents writer.old) (W.contents writer.new)) }
-    ensures refused { IfErr result (λ e. IsRefused e → writer.new ≡ writer.old) }
+    ensures refused { IfErr result (λ e. IsNoFailure e → writer.new ≡ writer.old) }
 {
     let text = to_vec_with_options(alloc, value, options)?;
     writer.write_all(text.as_slice())?;

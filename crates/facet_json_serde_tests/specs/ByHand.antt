@@ -6,7 +6,7 @@ use Rattle.facet_json_document.specs.Next.{PassesNext}
 use Rattle.serde.specs.Event.{Event, unsigned, seq_begins, seq_ends}
 use Rattle.serde.specs.Steps.{Gives, Stays}
 use Rattle.serde.specs.declared.deserializer.Deserializer.{Deserializer}
-use Rattle.facet_json_serde.specs.Ahead.{BeginsList, IsUnsigned}
+use Rattle.facet_json_serde.specs.Ahead.{IsListBegin, IsUnsigned}
 use Rattle.facet_json_serde_tests.specs.declared.by_hand.Figure.{Figure}
 use Rattle.facet_json_serde_tests.specs.declared.by_hand.Figure.TheVariants.{Percent, Range}
 
@@ -24,7 +24,7 @@ GivesPair {F} {E} {M} gives stays old low high new =
 abbrev pub PassesPair : Now → ℕ → ℕ → Type 0
 PassesPair now low high =
     (begins first second ends : ParserEvent) × (begun between last after : Now) × PassesNext now begins begun × PassesNext begun first between
-    × PassesNext between second last × PassesNext last ends after × BeginsList begins.kind × IsUnsigned first.kind low × IsUnsigned second.kind high
+    × PassesNext between second last × PassesNext last ends after × IsListBegin begins.kind × IsUnsigned first.kind low × IsUnsigned second.kind high
 
 -- Such a number or such a list was read after a look, in the words of any format.
 abbrev pub GivesFigure : {F E M : Type 0} → (F → List ℕ → Event → F → Type 0) → (F → F → Type 0) → Deserializer F E M → Figure → Deserializer F E M → Type 0

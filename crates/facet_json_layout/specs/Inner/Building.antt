@@ -66,9 +66,9 @@ abbrev pub built_view : Built → Nodes
 built_view b = record { nodes = nodes_view b.nodes.items; unclosed = reverse b.unclosed.items }
 
 -- The next event was passed and its node added, or the end was told.
-abbrev pub Adds : Bool → Now → Now → Nodes → Nodes → Type 0
-Adds true old new was is = (e : Event) × Moves old next (event (Ok (Some e))) new × (is ≡ added e.kind was)
-Adds false old new was is = Moves old next (event (Ok None)) new × (is ≡ was)
+abbrev pub AddsNext : Bool → Now → Now → Nodes → Nodes → Type 0
+AddsNext true old new was is = (e : Event) × Moves old next (event (Ok (Some e))) new × (is ≡ added e.kind was)
+AddsNext false old new was is = Moves old next (event (Ok None)) new × (is ≡ was)
 
 -- Events were passed, and these are their nodes.
 pub record AddsSome (old now : Now) (is : Nodes) : Type 0 where
@@ -85,8 +85,8 @@ pub record AddsAll (old : Now) (nodes : List Node) : Type 0 where
 -- ---- within a depth
 
 -- Where so many containers may be opened before the event, so many may be opened after it.
-abbrev pub Leaves : Option ℕ → EventKind → Span → Option ℕ → Type 0
-Leaves room kind span left = (others : Option ℕ → Option Span) → beyond_event kind span others room ≡ others left
+abbrev pub LeavesRoom : Option ℕ → EventKind → Span → Option ℕ → Type 0
+LeavesRoom room kind span left = (others : Option ℕ → Option Span) → beyond_event kind span others room ≡ others left
 
 -- The event opens a container where no more may be opened, and is refused for that.
 pub record IsTooDeep (room : Option ℕ) (kind : EventKind) (span : Span) (refusal : Refusal) : Type 0 where

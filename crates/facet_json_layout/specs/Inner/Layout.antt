@@ -5,7 +5,7 @@ use Rattle.facet_format.specs.Bytes as bytes
 use Rattle.facet_format.specs.Bytes.{line_feed, is_digit, dot, is_exponent_mark, is_sign, comma, colon, left_brace, left_bracket}
 use Rattle.facet_json_token.specs.Gap.{Mode}
 use Rattle.facet_json_document.specs.RfcText.{AreSpaces}
-use Rattle.facet_json_layout.specs.Pieces.{Piece, token_text, comment, no_token, pieces, without_trailing_commas, is_comma, closes}
+use Rattle.facet_json_layout.specs.Pieces.{TextPiece, token_text, comment, no_token, pieces, without_trailing_commas, is_comma, closes}
 use Rattle.facet_json_layout.specs.declared.pieces.Sort.{Sort}
 use Rattle.facet_json_layout.specs.declared.pieces.Sort.TheVariants as sort
 use Rattle.facet_json_layout.specs.declared.pieces.Found.{Found}
@@ -34,7 +34,7 @@ may_follow _ bytes = true
 -- ---- what is found
 
 -- the piece of this sort with this text
-abbrev pub piece_of : Sort → List ℕ → Piece
+abbrev pub piece_of : Sort → List ℕ → TextPiece
 piece_of sort.Block text = comment text
 piece_of sort.Line text = comment text
 piece_of _ text = token_text text
@@ -51,7 +51,7 @@ is_comma_sort sort.Comma = true
 is_comma_sort _ = false
 
 -- The bytes begin with such a piece, so many bytes long.
-pub record IsPiece (mode : Mode) (bytes : List ℕ) (s : Sort) (len : ℕ) : Type 0 where
+pub record BeginsPiece (mode : Mode) (bytes : List ℕ) (s : Sort) (len : ℕ) : Type 0 where
   pub some : 0 < len
   pub within : len ≤ length bytes
   pub came : pieces mode bytes ≡ piece_of s (take len bytes) ∷ pieces mode (drop len bytes)
@@ -62,7 +62,7 @@ pub record IsPiece (mode : Mode) (bytes : List ℕ) (s : Sort) (len : ℕ) : Typ
   pub commas : is_comma (take len bytes) ≡ is_comma_sort s
 
 -- whether each token of the text is one
-abbrev pub all_tokens : List Piece → Bool
+abbrev pub all_tokens : List TextPiece → Bool
 all_tokens [] = true
 all_tokens (no_token ∷ ps) = false
 all_tokens (comment text ∷ ps) = all_tokens ps
@@ -71,7 +71,7 @@ all_tokens (token_text text ∷ ps) = all_tokens ps
 -- What stands at an offset of the text.
 abbrev pub IsFound : Mode → List ℕ → ℕ → Found → Type 0
 IsFound mode text at (found.Blank b) = (at < length text) × (pieces mode (drop at text) ≡ pieces mode (drop (at + 1) text))
-IsFound mode text at (found.Piece s end) = (at ≤ end) × IsPiece mode (drop at text) s (end - at)
+IsFound mode text at (found.Piece s end) = (at ≤ end) × BeginsPiece mode (drop at text) s (end - at)
 IsFound mode text at found.End = all_tokens (pieces mode (drop at text)) ≡ true → pieces mode (drop at text) ≡ []
 
 -- ---- white space
@@ -95,18 +95,18 @@ pub record IsSpaced (s : Space) (old new : List ℕ) : Type 0 where
   pub begins : BeginsSpace s by.spaces
 
 -- whether such white space keeps the one piece from going on with the other
-abbrev pub parts : Sort → Sort → Space → Bool
-parts sort.Line next space.None = false
-parts sort.Line next space.Blank = false
-parts sort.Scalar sort.Scalar space.None = false
-parts last next s = true
+abbrev pub keeps_apart : Sort → Sort → Space → Bool
+keeps_apart sort.Line next space.None = false
+keeps_apart sort.Line next space.Blank = false
+keeps_apart sort.Scalar sort.Scalar space.None = false
+keeps_apart last next s = true
 
 -- ---- what is written so far
 
 -- Up to an offset the text is laid out, and this piece was the last.
 pub record IsLaidOut (mode : Mode) (text : List ℕ) (at : ℕ) (last : Sort) (out : List ℕ) : Type 0 where
   pub within : at ≤ length text
-  pub written : List Piece
+  pub written : List TextPiece
   pub came : without_trailing_commas (pieces mode text) ≡ written ++ without_trailing_commas (pieces mode (drop at text))
   pub goes_on : (k : List ℕ) → may_follow last k ≡ true → pieces mode (out ++ k) ≡ written ++ pieces mode k
   pub tokens : all_tokens (pieces mode (drop at text)) ≡ true

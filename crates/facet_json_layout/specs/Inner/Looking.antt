@@ -6,7 +6,7 @@ use Rattle.facet_format.specs.declared.event.ScalarValue.{ScalarValue}
 use Rattle.std.specs.Option.{unwrap_or}
 use Rattle.facet_json_core.specs.Told.{tree_of_scalar}
 use Rattle.facet_json_document.specs.Tree.{Tree, list, pairs, Trees, no_trees, tree, Pairs, no_pairs, pair}
-use Rattle.facet_json_layout.specs.Nodes.{Node, nothing, items, members, value_of, value_at, values, node_view, nodes_view}
+use Rattle.facet_json_layout.specs.Nodes.{Node, nothing, items, members, value_beginning, value_at, values, node_view, nodes_view}
 use Rattle.facet_json_layout.specs.declared.document.node.Node.{Node as RustNode}
 use Rattle.facet_json_layout.specs.declared.document.value.Value.{Value}
 
@@ -25,13 +25,13 @@ abbrev pub from : Value → ℕ → List (Node × Tree)
 from v at = drop at (values (nodes_view v.nodes.now))
 
 -- This node stands there.
-pub record Stands (v : Value) (at : ℕ) (n : Node) : Type 0 where
+pub record NodeStands (v : Value) (at : ℕ) (n : Node) : Type 0 where
   pub within : at < length v.nodes.now
-  pub here : from v at ≡ (n, value_of n (from v (suc at))) ∷ from v (suc at)
+  pub here : from v at ≡ (n, value_beginning n (from v (suc at))) ∷ from v (suc at)
 
 -- the answer is the node that stands there, where one does
 abbrev pub IsNodeAt : Value → ℕ → Option (Bor RustNode) → Type 0
-IsNodeAt v at answer = MatchOption answer (from v at ≡ []) (λ n. Stands v at (node_view n.now))
+IsNodeAt v at answer = MatchOption answer (from v at ≡ []) (λ n. NodeStands v at (node_view n.now))
 
 -- An item stands there, and those behind it begin further on.
 pub record IsItem (v : Value) (at : ℕ) (next : ℕ) : Type 0 where
@@ -44,11 +44,11 @@ abbrev pub IsNextItem : Value → ℕ → Option ℕ → Type 0
 IsNextItem v at answer = MatchOption answer (items 0 (from v at) ≡ no_trees) (λ next. IsItem v at next)
 
 -- A member with this name stands there, and those behind it begin further on.
-pub record IsMember (v : Value) (at : ℕ) (name : List ℕ) (next : ℕ) : Type 0 where
+pub record MemberStands (v : Value) (at : ℕ) (name : List ℕ) (next : ℕ) : Type 0 where
   pub are : members 0 (from v at) ≡ pair name (value_at (nodes_view v.nodes.now) (suc at)) (members 0 (from v next))
   pub further : at < next
   pub within : next ≤ length v.nodes.now
 
 -- the answer is the name of the member that stands there, and where the others begin
 abbrev pub IsMemberAt : Value → ℕ → Option (Bor (List ℕ) × ℕ) → Type 0
-IsMemberAt v at answer = MatchOption answer (members 0 (from v at) ≡ no_pairs) (λ m. IsMember v at m.0.now m.1)
+IsMemberAt v at answer = MatchOption answer (members 0 (from v at) ≡ no_pairs) (λ m. MemberStands v at m.0.now m.1)

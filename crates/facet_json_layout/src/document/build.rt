@@ -5,14 +5,14 @@ ghost use Rattle.facet_format.specs.Complaint.{no_memory};
 ghost use Rattle.facet_format.specs.Cursor.{event, next};
 ghost use Rattle.facet_format.specs.Span.{Span as SpecSpan};
 ghost use Rattle.facet_format.specs.Views.{refusal_of, event_kind_of, span_of};
-ghost use Rattle.facet_json_layout.specs.Inner.Building.{added, also, begun, closed, container, ended, built_view, none_yet, Adds, AddsAll, Leaves, IsTooDeep, RefusesNext};
+ghost use Rattle.facet_json_layout.specs.Inner.Building.{added, also, begun, closed, container, ended, built_view, none_yet, AddsNext, AddsAll, LeavesRoom, IsTooDeep, RefusesNext};
 ghost use Rattle.facet_json_tree.specs.Depth.{beyond_bracket, outer, too_deep_at};
 ghost use Rattle.facet_json_tree.specs.Inner.Beyond.{beyond, SameBeyond};
 ghost use Rattle.facet_json_core.specs.Reading.{LacksMemory};
 ghost use Rattle.facet_json_document.specs.Move.{Moves};
 ghost use Rattle.facet_json_document.specs.Now.{ahead, future_of};
 ghost use Rattle.facet_json_document.specs.UnreadLaws.{RefusalWithin};
-ghost use Rattle.facet_json_layout.specs.Formatted.{BreaksOffWithin};
+ghost use Rattle.facet_json_layout.specs.Formatted.{GetsStuckWithin};
 ghost use Rattle.facet_json_layout.specs.Nodes.{Node as SpecNode, leaf, list, object, closing, node_view, nodes_view};
 
 use crate::document::node::Node;
@@ -41,7 +41,7 @@ pub(crate) fn build<'i, 't>(
 ) -> Result<Vec<Node<'i>>, DeserializeError<'t>>
     ensures nodes { IfOk result (λ v. AddsAll parser.old (nodes_view v.items)) }
     ensures shallow { OnOk result (beyond (future_of parser.old) depth ≡ None) }
-    ensures refused { parser.old.cursor.refusal ≡ None → IfErr result (λ e. LacksMemory (refusal_of e) ⊎ BreaksOffWithin depth parser.old (refusal_of e)) }
+    ensures refused { parser.old.cursor.refusal ≡ None → IfErr result (λ e. LacksMemory (refusal_of e) ⊎ GetsStuckWithin depth parser.old (refusal_of e)) }
     ensures within { IfErr result (λ e. RefusalWithin parser.old.buffer (refusal_of e)) }
 {
     let mut built = Built {
@@ -56,7 +56,7 @@ pub(crate) fn build<'i, 't>(
 impl<'i> Built<'i> {
     /// Passes the next event, adds its node, and says whether there was one.
     fn adds_event<'t>(&mut self, parser: &mut JsonParser<'i>) -> Result<bool, DeserializeError<'t>>
-        ensures added { IfOk result (λ some. Adds some parser.old parser.new (built_view self.old) (built_view self.new)) }
+        ensures added { IfOk result (λ some. AddsNext some parser.old parser.new (built_view self.old) (built_view self.new)) }
         ensures level { result ≡ Ok true → SameBeyond (future_of parser.old) self.old.room (future_of parser.new) self.new.room }
         ensures refused { IfErr result (λ e. LacksMemory (refusal_of e) ⊎ RefusesNext self.old.room parser.old parser.new (refusal_of e)) }
         ensures shorter { result ≡ Ok true → ahead parser.new < ahead parser.old }
@@ -136,7 +136,7 @@ fn room_after<'t>(
     span: Span,
     room: Option<usize>,
 ) -> Result<Option<usize>, DeserializeError<'t>>
-    ensures left { IfOk result (λ left. Leaves room (event_kind_of kind.now) (span_of span) left) }
+    ensures left { IfOk result (λ left. LeavesRoom room (event_kind_of kind.now) (span_of span) left) }
     ensures refused { IfErr result (λ e. LacksMemory (refusal_of e) ⊎ IsTooDeep room (event_kind_of kind.now) (span_of span) (refusal_of e)) }
     ensures span { IfErr result (λ e. IfSome e.span (λ s. s ≡ span)) }
 {

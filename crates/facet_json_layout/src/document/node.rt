@@ -5,7 +5,7 @@ ghost use Rattle.std.specs.Option.{unwrap_or};
 ghost use Rattle.facet_format.specs.Views.{scalar_value_of};
 ghost use Rattle.facet_json_core.specs.Told.{tree_of_scalar};
 ghost use Rattle.facet_json_document.specs.Tree.{Tree};
-ghost use Rattle.facet_json_layout.specs.Nodes.{Node as SpecNode, kind_of, value_of, leaf, key, node_view, nothing, is_leaf, is_key, is_list, is_object, is_closing, inner as spec_inner};
+ghost use Rattle.facet_json_layout.specs.Nodes.{Node as SpecNode, value_kind, value_beginning, leaf, key, node_view, nothing, is_leaf, is_key, is_list, is_object, is_closing_node, inner_len as spec_inner};
 
 use facet_format::ScalarValue;
 use std::borrow::CowStr;
@@ -45,7 +45,7 @@ pub enum ValueKind {
 impl<'i> Node<'i> {
     /// What the value is that begins here.
     pub(crate) fn kind(&self) -> ValueKind
-        ensures { (later : List (SpecNode × Tree)) → result ≡ kind_of (value_of (node_view self.now) later) }
+        ensures { (later : List (SpecNode × Tree)) → result ≡ value_kind (value_beginning (node_view self.now) later) }
     {
         match self {
             Node::Leaf(value) => kind_of_scalar(value),
@@ -104,7 +104,7 @@ impl<'i> Node<'i> {
 
     /// Whether it is a container's end.
     pub(crate) fn is_end(&self) -> bool
-        ensures { result ≡ is_closing (node_view self.now) }
+        ensures { result ≡ is_closing_node (node_view self.now) }
     {
         matches!(self, Node::End)
     }
@@ -112,7 +112,7 @@ impl<'i> Node<'i> {
 
 /// What a value is that holds no others.
 fn kind_of_scalar(value: &ScalarValue<'_>) -> ValueKind
-    ensures { result ≡ kind_of (unwrap_or (tree_of_scalar (scalar_value_of value.now)) nothing) }
+    ensures { result ≡ value_kind (unwrap_or (tree_of_scalar (scalar_value_of value.now)) nothing) }
 {
     match value {
         ScalarValue::Bool(_) => ValueKind::Bool,

@@ -6,7 +6,7 @@ ghost use Rattle.facet_format.specs.Event.{bytes_of};
 ghost use Rattle.facet_json_tree.specs.Content as content;
 ghost use Rattle.facet_json_tree.specs.Content.{TellsUnsigned, TellsSigned};
 ghost use Rattle.facet_json_tree.specs.Lookup.{member, item, item_at, last_member};
-ghost use Rattle.facet_json_layout.specs.Nodes.{kind_of, value_view, node_view, inner, items, members, items_left, members_left, len, trees_len, pairs_len, trees_list, pairs_list};
+ghost use Rattle.facet_json_layout.specs.Nodes.{value_kind, value_view, node_view, inner_len, items, members, items_left, members_left, len, trees_len, pairs_len, trees_list, pairs_list};
 ghost use Rattle.facet_json_layout.specs.Inner.Looking.{IsLeaf, IsNodeAt, IsNextItem, IsMemberAt, from};
 
 mod copying;
@@ -40,7 +40,7 @@ impl<'d, 'i> Value<'d, 'i> {
     /// of 1.5: kind()                                          ValueKind::Number
     /// ```
     pub fn kind(&self) -> ValueKind
-        ensures { result ≡ kind_of (value_view self.now) }
+        ensures { result ≡ value_kind (value_view self.now) }
     {
         match self.node(self.index) {
             Some(node) => node.kind(),
@@ -276,7 +276,7 @@ impl<'d, 'i> Value<'d, 'i> {
     /// The index after a node and those that belong to it.
     fn past(&self, at: usize, node: &Node<'i>) -> usize
         requires { at < length self.now.nodes.now }
-        ensures left { from self.now result ≡ drop (inner (node_view node.now)) (from self.now (suc at)) }
+        ensures left { from self.now result ≡ drop (inner_len (node_view node.now)) (from self.now (suc at)) }
         ensures further { at < result }
         ensures within { result ≤ length self.now.nodes.now }
     {
