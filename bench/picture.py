@@ -16,12 +16,13 @@ WORKS = {
     "typed-text": ("typed-text", "structs written"),
     "log": ("log", "a member of a line"),
     "events": ("events", "each value visited"),
+    "document": ("document", "peers: their trees"),
     "tree": ("tree", "simdjson: its tape"),
     "text": ("text", "a tree written"),
     "fmt": ("fmt", "a whole process"),
 }
 # the works of the table
-LINES = ("typed", "typed-lent", "typed-text", "log", "skip", "events", "trusted", "tree", "text", "fmt")
+LINES = ("typed", "typed-lent", "typed-text", "log", "skip", "events", "trusted", "document", "check", "tree", "text", "fmt")
 SIDES = {"ours": "facet_json", "serde_json": "serde_json", "simdjson": "simdjson", "rapidjson": "RapidJSON"}
 # measured for one work alone, so it is no part of a mean
 LEFT_OUT = "one-account.json"

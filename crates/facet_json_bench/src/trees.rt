@@ -1,8 +1,10 @@
-//! Trees that are read and dropped, and written.
+//! Trees and documents of nodes that are read and dropped, and trees that are written.
 
 use crate::seen::{Seen, wide};
 use facet_json::scanner::Mode;
-use facet_json::{Tree, to_vec, tree_from_slice, tree_from_slice_jsonc};
+use facet_json::{
+    Document, Tree, check, check_jsonc, to_vec, tree_from_slice, tree_from_slice_jsonc,
+};
 use std::alloc::Global;
 use std::hint::black_box;
 
@@ -18,6 +20,26 @@ pub fn tree_of(alloc: Global, input: &[u8], mode: Mode) -> Option<Tree> {
 /// A tree is read and dropped.
 pub fn tree(alloc: Global, input: &[u8], mode: Mode) -> Option<Seen> {
     let _tree = black_box(tree_of(alloc, input, mode)?);
+    Some(Seen::none().with(0))
+}
+
+/// The document is read into nodes, and they are dropped.
+pub fn document(alloc: Global, input: &[u8], mode: Mode) -> Option<Seen> {
+    let document = match mode {
+        Mode::Plain => Document::parse(alloc, input),
+        Mode::Jsonc => Document::parse_jsonc(alloc, input),
+    };
+    let _document = black_box(document.ok()?);
+    Some(Seen::none().with(0))
+}
+
+/// The input has a document.
+pub fn checked(alloc: Global, input: &[u8], mode: Mode) -> Option<Seen> {
+    let answer = match mode {
+        Mode::Plain => check(alloc, input),
+        Mode::Jsonc => check_jsonc(alloc, input),
+    };
+    answer.ok()?;
     Some(Seen::none().with(0))
 }
 

@@ -5,7 +5,7 @@ use crate::derives::{List, Listed, Side, derive, derive_text, list_of};
 use crate::lines::log;
 use crate::passes::{events, scanned, skip, strict_events, strict_trusted, tokens, trusted};
 use crate::seen::Seen;
-use crate::trees::{text, tree, tree_of};
+use crate::trees::{checked, document, text, tree, tree_of};
 use facet_json::Tree;
 use facet_json::scanner::Mode;
 use facet_json_examples::accounts::Account;
@@ -28,6 +28,10 @@ pub enum Work {
     StrictEvents,
     /// Each event in strict mode, from a text.
     StrictTrusted,
+    /// A document of nodes is read and dropped.
+    Document,
+    /// Whether there is a document.
+    Check,
     /// A tree is read and dropped.
     Tree,
     /// A tree is written.
@@ -47,12 +51,14 @@ pub enum Work {
 }
 
 /// The works that any document is passed by, and their names.
-pub const GENERAL: [(&str, Work); 7] = [
+pub const GENERAL: [(&str, Work); 9] = [
     ("tokens", Work::Tokens),
     ("scanner", Work::Scanner),
     ("skip", Work::Skip),
     ("events", Work::Events),
     ("trusted", Work::Trusted),
+    ("document", Work::Document),
+    ("check", Work::Check),
     ("tree", Work::Tree),
     ("text", Work::Text),
 ];
@@ -65,6 +71,8 @@ pub fn work_of(name: &str) -> Option<Work> {
         "skip" => Some(Work::Skip),
         "events" => Some(Work::Events),
         "trusted" => Some(Work::Trusted),
+        "document" => Some(Work::Document),
+        "check" => Some(Work::Check),
         "tree" => Some(Work::Tree),
         "text" => Some(Work::Text),
         "typed" => Some(Work::Typed),
@@ -160,6 +168,8 @@ impl<'i> Order<'i> {
             Work::Trusted => trusted(alloc, self.input, self.mode),
             Work::StrictEvents => strict_events(alloc, input),
             Work::StrictTrusted => strict_trusted(alloc, self.input),
+            Work::Document => document(alloc, input, self.mode),
+            Work::Check => checked(alloc, input, self.mode),
             Work::Tree => tree(alloc, input, self.mode),
             Work::Typed => typed(alloc, input, self.mode),
             Work::TypedLent => typed_lent(alloc, input, self.mode),
