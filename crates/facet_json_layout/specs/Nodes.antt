@@ -23,8 +23,8 @@ pub data Node : Type 0 where
   leaf : Tree → Node
   key : List ℕ → Node
   -- with the number of nodes up to its end, that of the end with them
-  list : (inner_len : ℕ) → Node
-  object : (inner_len : ℕ) → Node
+  list : (inner : ℕ) → Node
+  object : (inner : ℕ) → Node
   closing : Node
 
 -- how many nodes after this one belong to it
