@@ -11,7 +11,7 @@ use facet_json::{
     Document, Done, FormatOptions, LineError, Lines, Need, format_text, from_slice,
     from_slice_borrowed, from_slice_borrowed_jsonc, from_slice_jsonc, from_slice_prefix,
     from_slice_strict, from_str, from_str_borrowed, from_str_borrowed_jsonc, from_str_jsonc,
-    from_str_prefix, from_str_strict, read_fields, to_vec, tree, write_fields,
+    from_str_prefix, from_str_strict, read_fields, to_vec, tree, tree_from_slice, write_fields,
 };
 use facet_json_core::RawJson;
 use facet_json_examples::accounts::Account;
@@ -914,4 +914,19 @@ fn is_in_nodes(alloc: Global) -> Option<bool> {
 fn a_growth_is_refused_in_a_document(rt: HostRuntime) {
     let first = is_in_nodes(rt.alloc());
     assert!(rt; but_once(first, is_in_nodes(rt.alloc())));
+}
+
+/// Whether the tree of a document's value is taken of its nodes, if memory suffices: texts, a number, and containers within others.
+fn is_taken(alloc: Global) -> Option<bool> {
+    let text = br#"[{"\u0061":18446744073709551616,"b":[1.5,[]]},"c"]"#;
+    let document = Document::parse(alloc, text).ok()?;
+    let taken = document.root().to_tree(alloc).ok()?;
+    let wanted = tree_from_slice(alloc, text).ok()?;
+    Some(taken.is_same(&wanted))
+}
+
+#[test]
+fn a_growth_is_refused_where_a_tree_is_taken(rt: HostRuntime) {
+    let first = is_taken(rt.alloc());
+    assert!(rt; but_once(first, is_taken(rt.alloc())));
 }
