@@ -6,7 +6,7 @@ ghost use Rattle.facet_json_serializer.specs.OptionsViews.{options_of};
 ghost use Rattle.facet_json_serde.specs.declared.streams.StreamError.TheVariants as stream;
 ghost use Rattle.facet_json_serde.specs.Messages.{stream_message};
 ghost use Rattle.facet_json_serde.specs.OneValue.{WritesTree};
-ghost use Rattle.facet_json_serde.specs.Within.{IsNoFailure, LiesWithin, TellsWithin};
+ghost use Rattle.facet_json_serde.specs.Within.{IsNoFailure, TellsWithin};
 
 use crate::error::Error;
 use crate::reading::from_slice;
