@@ -1,12 +1,12 @@
 //! Bytes as lists of numbers and as hexadecimal texts.
 
-use crate::written::{Call, Layout, Row, expect_written};
+use crate::written::{Call, Layout, Row};
 
 /// 0 to 9.
 const DIGITS: &[Call<'static>] = &[Call::Bytes(&[0, 1, 2, 3, 4, 5, 6, 7, 8, 9])];
 
 /// Hexadecimal texts: they are shortened where they are longer than the options say, and their digits are in lower case.
-static HEX: [Row; 5] = [
+pub static HEX: [Row; 5] = [
     (
         Layout::ShortHex(6, 2, 2),
         DIGITS,
@@ -40,7 +40,7 @@ static HEX: [Row; 5] = [
 ];
 
 /// Lists of numbers, which are always compact.
-static LISTS: [Row; 2] = [
+pub static LISTS: [Row; 2] = [
     (
         Layout::Pretty,
         &[
@@ -57,9 +57,3 @@ static LISTS: [Row; 2] = [
     ),
     (Layout::Lists, &[Call::Bytes(&[])], &[], "[]"),
 ];
-
-#[test]
-fn bytes_are_texts_or_lists(rt: HostRuntime) {
-    expect_written(&rt, rt.alloc(), &HEX);
-    expect_written(&rt, rt.alloc(), &LISTS);
-}

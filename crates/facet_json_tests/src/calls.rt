@@ -1,9 +1,12 @@
 //! Calls in any order, compact and indented.
 
+use crate::byte_texts::{HEX, LISTS};
+use crate::byte_types::STRUCTS;
 use crate::error_samples::is_displayed;
-use crate::written::{Call, Layout, Row, expect_written, writes_decimal, writes_scalar};
-use facet_format::{FormatSerializer, ScalarValue};
-use facet_json_serializer::{JsonSerializeError, JsonSerializer, SerializeOptions};
+use crate::escapes::ESCAPES;
+use crate::written::{Call, Layout, Row, Scalar, expect_written, is_text};
+use facet_format::FormatSerializer;
+use facet_json_serializer::{JsonSerializeError, JsonSerializer};
 use std::alloc::Global;
 
 /// Calls of which some do not fit: these are refused, and change nothing.
@@ -79,7 +82,7 @@ const MEMBERS: &[Call<'static>] = &[
 ];
 
 /// A list of structs.
-const STRUCTS: &[Call<'static>] = &[
+const NUMBERED: &[Call<'static>] = &[
     Call::BeginStruct,
     Call::Key("List"),
     Call::BeginSeq,
@@ -116,9 +119,71 @@ static SEPARATED: [Row; 4] = [
     ),
     (
         Layout::Pretty,
-        STRUCTS,
+        NUMBERED,
         &[],
         "{\n  \"List\": [\n    {\n      \"Number\": 10\n    },\n    {\n      \"Number\": 20\n    },\n    {\n      \"Number\": 30\n    }\n  ]\n}",
+    ),
+];
+
+/// Values of each other kind.
+static SCALARS: [Row; 13] = [
+    (Layout::Compact, &[Call::Scalar(Scalar::Null)], &[], "null"),
+    (Layout::Compact, &[Call::Scalar(Scalar::Unit)], &[], "null"),
+    (
+        Layout::Compact,
+        &[Call::Scalar(Scalar::Bool(true))],
+        &[],
+        "true",
+    ),
+    (
+        Layout::Compact,
+        &[Call::Scalar(Scalar::Bool(false))],
+        &[],
+        "false",
+    ),
+    (
+        Layout::Compact,
+        &[Call::Scalar(Scalar::Char('x'))],
+        &[],
+        "\"x\"",
+    ),
+    (
+        Layout::Compact,
+        &[Call::Scalar(Scalar::Char('"'))],
+        &[],
+        "\"\\\"\"",
+    ),
+    (Layout::Compact, &[Call::Scalar(Scalar::I64(-1))], &[], "-1"),
+    (Layout::Compact, &[Call::Scalar(Scalar::I64(5))], &[], "5"),
+    (
+        Layout::Compact,
+        &[Call::Scalar(Scalar::I128(-9223372036854775809))],
+        &[],
+        "-9223372036854775809",
+    ),
+    (
+        Layout::Compact,
+        &[Call::Scalar(Scalar::U128(18446744073709551616))],
+        &[],
+        "18446744073709551616",
+    ),
+    (
+        Layout::Compact,
+        &[Call::Scalar(Scalar::Bytes(&[1, 255]))],
+        &[],
+        "[1,255]",
+    ),
+    (
+        Layout::Compact,
+        &[Call::Scalar(Scalar::Decimal("5e-05"))],
+        &[],
+        "5e-05",
+    ),
+    (
+        Layout::Compact,
+        &[Call::Scalar(Scalar::Decimal("0.0"))],
+        &[],
+        "0.0",
     ),
 ];
 
@@ -128,62 +193,44 @@ fn calls_are_written_or_refused(rt: HostRuntime) {
     expect_written(&rt, alloc, &REFUSED);
     expect_written(&rt, alloc, &PLACED);
     expect_written(&rt, alloc, &SEPARATED);
+    expect_written(&rt, alloc, &SCALARS);
+    expect_written(&rt, alloc, &ESCAPES);
+    expect_written(&rt, alloc, &HEX);
+    expect_written(&rt, alloc, &LISTS);
+    expect_written(&rt, alloc, &STRUCTS);
 }
 
-/// Whether the value is written as this text, without options.
-fn is_written(alloc: Global, value: ScalarValue<'_>, text: &str) -> bool {
-    writes_scalar(alloc, SerializeOptions::new(), value, text)
+/// Whether a new serializer names its format, and writes an array of a byte in a list as this.
+fn writes_compact(alloc: Global, text: &str) -> bool {
+    let mut serializer = JsonSerializer::new(alloc);
+    serializer.format_namespace() == Some("json")
+        && serializer.begin_seq().is_ok()
+        && matches!(serializer.serialize_byte_array(&[7]), Ok(true))
+        && serializer.end_seq().is_ok()
+        && is_text(serializer.finish(), text)
 }
 
-#[test]
-fn scalars_are_written(rt: HostRuntime) {
-    let alloc = rt.alloc();
-    assert!(rt; is_written(alloc, ScalarValue::Null, "null"));
-    assert!(rt; is_written(alloc, ScalarValue::Unit, "null"));
-    assert!(rt; is_written(alloc, ScalarValue::Bool(true), "true"));
-    assert!(rt; is_written(alloc, ScalarValue::Bool(false), "false"));
-    assert!(rt; is_written(alloc, ScalarValue::Char('x'), "\"x\""));
-    assert!(rt; is_written(alloc, ScalarValue::Char('"'), "\"\\\"\""));
-    assert!(rt; is_written(alloc, ScalarValue::I64(-1), "-1"));
-    assert!(rt; is_written(alloc, ScalarValue::I64(5), "5"));
-    assert!(rt;
-        is_written(
-            alloc,
-            ScalarValue::I128(-9223372036854775809),
-            "-9223372036854775809"
-        )
-    );
-    assert!(rt;
-        is_written(
-            alloc,
-            ScalarValue::U128(18446744073709551616),
-            "18446744073709551616"
-        )
-    );
-    assert!(rt; is_written(alloc, ScalarValue::Bytes(&[1, 255]), "[1,255]"));
-    assert!(rt; writes_decimal(alloc, "5e-05"));
-    assert!(rt; writes_decimal(alloc, "0.0"));
-}
+/// Refusals, and their texts.
+static REFUSALS: [(JsonSerializeError, &str); 4] = [
+    (
+        JsonSerializeError::KeyOutsideStruct,
+        "field_key called outside of a struct",
+    ),
+    (
+        JsonSerializeError::NoStructToEnd,
+        "end_struct called without matching begin_struct",
+    ),
+    (
+        JsonSerializeError::NoListToEnd,
+        "end_seq called without matching begin_seq",
+    ),
+    (JsonSerializeError::OutOfMemory, "out of memory"),
+];
 
 #[test]
-fn a_new_serializer_is_compact_and_names_its_format(rt: HostRuntime) {
-    let mut serializer = JsonSerializer::new(rt.alloc());
-    assert!(rt; serializer.format_namespace() == Some("json"));
-    assert!(rt; serializer.begin_seq().is_ok());
-    assert!(rt; serializer.serialize_byte_array(&[7]).expect(&rt, "memory"));
-    assert!(rt; serializer.end_seq().is_ok());
-    let written = serializer.finish().expect(&rt, "memory");
-    assert!(rt; written.as_slice() == b"[[7]]".as_slice());
-}
-
-#[test]
-fn refusals_have_their_texts(rt: HostRuntime) {
-    let alloc = rt.alloc();
-    let text = "field_key called outside of a struct";
-    assert!(rt; is_displayed(alloc, &JsonSerializeError::KeyOutsideStruct, text));
-    let text = "end_struct called without matching begin_struct";
-    assert!(rt; is_displayed(alloc, &JsonSerializeError::NoStructToEnd, text));
-    let text = "end_seq called without matching begin_seq";
-    assert!(rt; is_displayed(alloc, &JsonSerializeError::NoListToEnd, text));
-    assert!(rt; is_displayed(alloc, &JsonSerializeError::OutOfMemory, "out of memory"));
+fn a_new_serializer_is_compact_and_refusals_have_their_texts(rt: HostRuntime) {
+    assert!(rt; writes_compact(rt.alloc(), "[[7]]"));
+    for (refusal, text) in &REFUSALS {
+        assert!(rt; is_displayed(rt.alloc(), refusal, *text));
+    }
 }

@@ -3,7 +3,7 @@
 
 use crate::samples::{list, object};
 use crate::sorting::LONG;
-use crate::tree_allocations::but_once;
+use crate::twice::but_once;
 use facet_json_tree::{NotStored, Tree, tree_from_slice};
 use std::alloc::{AllocError, Global};
 
@@ -36,71 +36,15 @@ fn is_inserted(alloc: Global, mut tree: Tree, key: &str, before: &Tree) -> Optio
     }
 }
 
-/// The same of a list without items, whose first item takes memory, and of one with some.
-fn pushes(alloc: Global, made: Result<Tree, AllocError>) -> Option<bool> {
-    let Ok(before) = made else {
-        return None;
-    };
-    match before.clone(alloc) {
-        Ok(tree) => is_pushed(tree, &before),
-        Err(AllocError) => None,
-    }
-}
-
-/// Whether `{"a":1,"b":[true,null,[]],"a":3}` takes a member of this name; or memory runs out.
-fn inserts(alloc: Global, key: &str) -> Option<bool> {
-    let Ok(before) = object(alloc) else {
-        return None;
-    };
-    match before.clone(alloc) {
-        Ok(tree) => is_inserted(alloc, tree, key, &before),
-        Err(AllocError) => None,
-    }
-}
-
-#[test]
-fn a_growth_is_refused_in_a_list(rt: HostRuntime) {
-    let alloc = rt.alloc();
-    assert!(rt; but_once(pushes(alloc, list(alloc)), pushes(alloc, list(alloc))));
-    let first = pushes(alloc, Ok(Tree::List(Vec::new(alloc))));
-    let again = pushes(alloc, Ok(Tree::List(Vec::new(alloc))));
-    assert!(rt; but_once(first, again));
-}
-
-/// A name that comes twice, and one that is not there.
-static KEYS: [&str; 2] = ["a", "c"];
-
-#[test]
-fn a_growth_is_refused_in_an_object(rt: HostRuntime) {
-    let alloc = rt.alloc();
-    for key in &KEYS {
-        assert!(rt;
-            but_once(inserts(alloc, *key), inserts(alloc, *key)),
-            "{key}"
-        );
-    }
-}
-
-/// Whether a tree becomes an object by that patch; or memory runs out, and it is as it was.
-fn is_merged(alloc: Global, mut tree: Tree, patch: &Tree, before: &Tree) -> Option<bool> {
-    match tree.merge_patch(alloc, patch) {
-        Ok(()) => Some(tree.is_same(patch)),
-        Err(AllocError) if tree.is_same(before) => None,
-        Err(AllocError) => Some(false),
-    }
-}
-
-/// Whether `[true,null,[]]` becomes `{"b":[true,null,[]]}`; or memory runs out.
-fn merges(alloc: Global) -> Option<bool> {
+/// Whether a tree becomes `{"b":[true,null,[]]}` by that patch; or memory runs out, and it is as it was.
+fn is_merged(alloc: Global, mut tree: Tree, before: &Tree) -> Option<bool> {
     let Ok(patch) = object_once(alloc) else {
         return None;
     };
-    let Ok(before) = list(alloc) else {
-        return None;
-    };
-    match before.clone(alloc) {
-        Ok(tree) => is_merged(alloc, tree, &patch, &before),
-        Err(AllocError) => None,
+    match tree.merge_patch(alloc, &patch) {
+        Ok(()) => Some(tree.is_same(&patch)),
+        Err(AllocError) if tree.is_same(before) => None,
+        Err(AllocError) => Some(false),
     }
 }
 
@@ -111,36 +55,11 @@ fn object_once(alloc: Global) -> Result<Tree, AllocError> {
     Ok(tree)
 }
 
-#[test]
-fn a_growth_is_refused_in_a_merge(rt: HostRuntime) {
-    let alloc = rt.alloc();
-    assert!(rt; but_once(merges(alloc), merges(alloc)));
-}
-
 /// Whether an object lends the member of this name, or a new one; or memory runs out.
 fn is_lent(alloc: Global, mut tree: Tree, key: &str, before: &Tree) -> Option<bool> {
     match tree.get_or_insert(alloc, key, Tree::U64(7)) {
         Ok(lent) => Some(lent.is_same(before.get(key).unwrap_or(&Tree::U64(7)))),
         Err(error) => is_refused(error, &tree, before),
-    }
-}
-
-/// Whether `{"a":1,"b":[true,null,[]],"a":3}` lends a member of this name; or memory runs out.
-fn lends(alloc: Global, key: &str) -> Option<bool> {
-    let Ok(before) = object(alloc) else {
-        return None;
-    };
-    match before.clone(alloc) {
-        Ok(tree) => is_lent(alloc, tree, key, &before),
-        Err(AllocError) => None,
-    }
-}
-
-#[test]
-fn a_growth_is_refused_where_a_member_is_lent(rt: HostRuntime) {
-    let alloc = rt.alloc();
-    for key in &KEYS {
-        assert!(rt; but_once(lends(alloc, *key), lends(alloc, *key)), "{key}");
     }
 }
 
@@ -162,19 +81,70 @@ fn begins_with_two_and_seven(tree: &Tree) -> bool {
     )
 }
 
-/// Whether a long object is sorted; or memory runs out.
-fn sorts(alloc: Global) -> Option<bool> {
-    let Ok(before) = tree_from_slice(alloc, LONG.as_bytes()) else {
-        return None;
-    };
+/// A change of a value.
+#[derive(Clone, Copy)]
+enum Change {
+    /// A list without items takes one, which takes memory.
+    First,
+    /// `[true,null,[]]` takes an item.
+    Push,
+    /// `{"a":1,"b":[true,null,[]],"a":3}` takes a member of this name.
+    Insert(&'static str),
+    /// `[true,null,[]]` becomes `{"b":[true,null,[]]}`.
+    Merge,
+    /// `{"a":1,"b":[true,null,[]],"a":3}` lends a member of this name.
+    Lend(&'static str),
+    /// A long object is sorted.
+    Sort,
+}
+
+/// The value that is changed.
+fn before(alloc: Global, change: Change) -> Option<Tree> {
+    match change {
+        Change::First => Some(Tree::List(Vec::new(alloc))),
+        Change::Push | Change::Merge => list(alloc).ok(),
+        Change::Insert(_) | Change::Lend(_) => object(alloc).ok(),
+        Change::Sort => tree_from_slice(alloc, LONG.as_bytes()).ok(),
+    }
+}
+
+/// Whether the tree is changed so; or memory runs out.
+fn is_changed(alloc: Global, tree: Tree, change: Change, before: &Tree) -> Option<bool> {
+    match change {
+        Change::First | Change::Push => is_pushed(tree, before),
+        Change::Insert(key) => is_inserted(alloc, tree, key, before),
+        Change::Merge => is_merged(alloc, tree, before),
+        Change::Lend(key) => is_lent(alloc, tree, key, before),
+        Change::Sort => is_sorted(alloc, tree, before),
+    }
+}
+
+/// Whether a value that is made is changed so; or memory runs out.
+fn changes(alloc: Global, change: Change) -> Option<bool> {
+    let before = before(alloc, change)?;
     match before.clone(alloc) {
-        Ok(tree) => is_sorted(alloc, tree, &before),
+        Ok(tree) => is_changed(alloc, tree, change, &before),
         Err(AllocError) => None,
     }
 }
 
+/// Each change. The name `a` comes twice, and `c` is not there.
+static CHANGES: [Change; 8] = [
+    Change::First,
+    Change::Push,
+    Change::Insert("a"),
+    Change::Insert("c"),
+    Change::Merge,
+    Change::Lend("a"),
+    Change::Lend("c"),
+    Change::Sort,
+];
+
 #[test]
-fn a_growth_is_refused_in_a_sort(rt: HostRuntime) {
+fn a_growth_is_refused_in_a_change(rt: HostRuntime) {
     let alloc = rt.alloc();
-    assert!(rt; but_once(sorts(alloc), sorts(alloc)));
+    for &change in &CHANGES {
+        let first = changes(alloc, change);
+        assert!(rt; but_once(first, changes(alloc, change)));
+    }
 }

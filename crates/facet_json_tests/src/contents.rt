@@ -5,72 +5,127 @@ use facet_format::Decimal;
 use facet_json_tree::{OwnedDecimal, Tree};
 use std::alloc::Global;
 
+/// A value that holds no text and no others.
+#[derive(Clone, Copy)]
+enum Small {
+    Null,
+    Unit,
+    Bool(bool),
+    Char(char),
+    I64(i64),
+    U64(u64),
+    I128(i128),
+    U128(u128),
+}
+
+/// The value.
+fn tree(value: Small) -> Tree {
+    match value {
+        Small::Null => Tree::Null,
+        Small::Unit => Tree::Unit,
+        Small::Bool(truth) => Tree::Bool(truth),
+        Small::Char(character) => Tree::Char(character),
+        Small::I64(number) => Tree::I64(number),
+        Small::U64(number) => Tree::U64(number),
+        Small::I128(number) => Tree::I128(number),
+        Small::U128(number) => Tree::U128(number),
+    }
+}
+
+/// A whole number in each type that has it, of 64 and 128 bits, without a sign and with one.
+type Whole = (Option<u64>, Option<i64>, Option<u128>, Option<i128>);
+
+const FIVE: Whole = (Some(5), Some(5), Some(5), Some(5));
+
+const NONE: Whole = (None, None, None, None);
+
+/// Values, and the whole numbers that they are.
+static WHOLE: [(Small, Whole); 13] = [
+    (Small::I64(5), FIVE),
+    (Small::U64(5), FIVE),
+    (Small::I128(5), FIVE),
+    (Small::U128(5), FIVE),
+    (Small::I64(-5), (None, Some(-5), None, Some(-5))),
+    (Small::I128(-5), (None, Some(-5), None, Some(-5))),
+    (Small::Null, NONE),
+    (Small::Char('5'), NONE),
+    (
+        Small::U64(9223372036854775808),
+        (
+            Some(9223372036854775808),
+            None,
+            Some(9223372036854775808),
+            Some(9223372036854775808),
+        ),
+    ),
+    (
+        Small::U128(18446744073709551616),
+        (
+            None,
+            None,
+            Some(18446744073709551616),
+            Some(18446744073709551616),
+        ),
+    ),
+    (
+        Small::U128(340282366920938463463374607431768211455),
+        (
+            None,
+            None,
+            Some(340282366920938463463374607431768211455),
+            None,
+        ),
+    ),
+    (
+        Small::I128(-9223372036854775808),
+        (
+            None,
+            Some(-9223372036854775808),
+            None,
+            Some(-9223372036854775808),
+        ),
+    ),
+    (
+        Small::I128(-9223372036854775809),
+        (None, None, None, Some(-9223372036854775809)),
+    ),
+];
+
 /// Whether the value is this whole number in each type that has it, and none in the others.
-fn is_whole(value: Tree, wanted: (Option<u64>, Option<i64>, Option<u128>, Option<i128>)) -> bool {
+fn is_whole(value: Tree, wanted: Whole) -> bool {
     value.as_u64() == wanted.0
         && value.as_i64() == wanted.1
         && value.as_u128() == wanted.2
         && value.as_i128() == wanted.3
 }
 
-#[test]
-fn whole_numbers_fit_or_do_not(rt: HostRuntime) {
-    let five = (Some(5), Some(5), Some(5), Some(5));
-    assert!(rt; is_whole(Tree::I64(5), five));
-    assert!(rt; is_whole(Tree::U64(5), five));
-    assert!(rt; is_whole(Tree::I128(5), five));
-    assert!(rt; is_whole(Tree::U128(5), five));
-    let minus = (None, Some(-5), None, Some(-5));
-    assert!(rt; is_whole(Tree::I64(-5), minus));
-    assert!(rt; is_whole(Tree::I128(-5), minus));
-    let none = (None, None, None, None);
-    assert!(rt; is_whole(Tree::Null, none));
-    assert!(rt; is_whole(Tree::Char('5'), none));
+/// Values, whether they are null, and which truth values they are.
+static SMALL: [(Small, bool, Option<bool>); 5] = [
+    (Small::Null, true, None),
+    (Small::Unit, true, None),
+    (Small::Bool(true), false, Some(true)),
+    (Small::Bool(false), false, Some(false)),
+    (Small::U64(0), false, None),
+];
+
+/// Whether the value is null, or this truth value, or neither.
+fn is_small(value: Tree, null: bool, truth: Option<bool>) -> bool {
+    value.is_null() == null && value.as_bool() == truth
 }
 
 #[test]
-fn the_greatest_and_the_least_fit(rt: HostRuntime) {
-    let past_i64 = 9223372036854775808;
-    assert!(rt;
-        is_whole(
-            Tree::U64(past_i64),
-            (
-                Some(past_i64),
-                None,
-                Some(9223372036854775808),
-                Some(9223372036854775808)
-            )
-        )
-    );
-    let past_u64 = 18446744073709551616;
-    assert!(rt;
-        is_whole(
-            Tree::U128(past_u64),
-            (None, None, Some(past_u64), Some(18446744073709551616))
-        )
-    );
-    let most = 340282366920938463463374607431768211455;
-    assert!(rt; is_whole(Tree::U128(most), (None, None, Some(most), None)));
-    let least = -9223372036854775808;
-    assert!(rt;
-        is_whole(
-            Tree::I128(-9223372036854775808),
-            (None, Some(least), None, Some(-9223372036854775808))
-        )
-    );
-    let below_i64 = -9223372036854775809;
-    assert!(rt; is_whole(Tree::I128(below_i64), (None, None, None, Some(below_i64))));
+fn numbers_and_truth_values_are_told(rt: HostRuntime) {
+    for &(value, wanted) in &WHOLE {
+        assert!(rt; is_whole(tree(value), wanted));
+    }
+    for &(value, null, truth) in &SMALL {
+        assert!(rt; is_small(tree(value), null, truth));
+    }
 }
 
-fn is_null(value: Tree) -> bool {
-    value.is_null()
-}
-
-#[test]
-fn null_and_unit_are_null(rt: HostRuntime) {
-    assert!(rt; is_null(Tree::Null) && is_null(Tree::Unit));
-    assert!(rt; !is_null(Tree::Bool(false)) && !is_null(Tree::U64(0)));
-    assert!(rt; !is_null(Tree::List(Vec::new(rt.alloc()))));
+/// Whether a list without items is not null.
+fn is_not_null(list: Tree) -> bool {
+    !list.is_null()
 }
 
 /// Whether the number of this text is told by it.
@@ -85,18 +140,6 @@ fn is_decimal(value: &Tree, text: &str) -> bool {
         Some(told) => told.as_str() == text && value.as_u64().is_none(),
         None => false,
     }
-}
-
-fn truth(value: Tree) -> Option<bool> {
-    value.as_bool()
-}
-
-#[test]
-fn truth_values_and_decimals_are_told(rt: HostRuntime) {
-    assert!(rt; truth(Tree::Bool(true)) == Some(true));
-    assert!(rt; truth(Tree::Bool(false)) == Some(false));
-    assert!(rt; truth(Tree::Null).is_none() && Tree::Null.as_decimal().is_none());
-    assert!(rt; tells_decimal(rt.alloc(), "-0.50") == Some(true));
 }
 
 /// Whether a text is told.
@@ -121,14 +164,6 @@ fn tells_raw(alloc: Global, text: &str) -> Option<bool> {
     Some(value.as_raw()?.as_str() == text && value.as_str().is_none())
 }
 
-#[test]
-fn texts_are_told(rt: HostRuntime) {
-    assert!(rt; tells_text(rt.alloc(), "a text"));
-    assert!(rt; tells_text(rt.alloc(), ""));
-    assert!(rt; Tree::Char('a').as_str().is_none() && Tree::Null.as_raw().is_none());
-    assert!(rt; tells_raw(rt.alloc(), "[1]") == Some(true));
-}
-
 /// How many items the list of the samples lends.
 fn item_count(alloc: Global) -> Option<usize> {
     match list(alloc) {
@@ -145,10 +180,27 @@ fn member_count(alloc: Global) -> Option<usize> {
     }
 }
 
+/// Whether the value lends nothing.
+fn lends_nothing(value: &Tree) -> bool {
+    value.as_decimal().is_none()
+        && value.as_str().is_none()
+        && value.as_raw().is_none()
+        && value.as_list().is_none()
+        && value.as_pairs().is_none()
+}
+
+/// Whether each text is told.
+fn tell_texts(alloc: Global) -> bool {
+    tells_text(alloc, "a text")
+        && tells_text(alloc, "")
+        && tells_decimal(alloc, "-0.50") == Some(true)
+        && tells_raw(alloc, "[1]") == Some(true)
+}
+
 #[test]
-fn items_and_members_are_told(rt: HostRuntime) {
+fn what_values_hold_is_told(rt: HostRuntime) {
     let alloc = rt.alloc();
-    assert!(rt; item_count(alloc) == Some(3));
-    assert!(rt; member_count(alloc) == Some(3));
-    assert!(rt; Tree::Null.as_list().is_none() && Tree::Null.as_pairs().is_none());
+    assert!(rt; tell_texts(alloc) && is_not_null(Tree::List(Vec::new(alloc))));
+    assert!(rt; item_count(alloc) == Some(3) && member_count(alloc) == Some(3));
+    assert!(rt; lends_nothing(&Tree::Null) && lends_nothing(&Tree::Char('a')));
 }

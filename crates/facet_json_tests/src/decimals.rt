@@ -22,7 +22,8 @@ fn keeps(alloc: Global, decimal: Decimal<'_>, text: &str) -> bool {
     }
 }
 
-fn still_keeps(alloc: Global, owned: Decimal<'_>, text: &str) -> bool {
+/// The same of one in memory of its own.
+pub fn still_keeps(alloc: Global, owned: Decimal<'_>, text: &str) -> bool {
     match owned.into_owned(alloc) {
         Ok(again) => again.as_str() == text,
         Err(_) => false,
@@ -37,51 +38,29 @@ fn is_decimal(alloc: Global, text: &str) -> bool {
     }
 }
 
-#[test]
-fn decimals(rt: HostRuntime) {
-    for text in &TEXTS {
-        assert!(rt; is_decimal(rt.alloc(), *text), "{text}");
+/// Whether the decimals of the two texts are equal, also where the first is in memory of its own; none where both answers are not the same.
+fn are_equal(alloc: Global, text: &str, other: &str) -> Option<bool> {
+    let decimal = Decimal::new(text)?;
+    let other = Decimal::new(other)?;
+    let lent = decimal == other;
+    let owned = decimal.into_owned(alloc).ok()?;
+    if (owned == other) == lent {
+        Some(lent)
+    } else {
+        None
     }
-    for text in &REFUSED {
-        assert!(rt; Decimal::new(*text).is_none(), "{text}");
-    }
-}
-
-/// Whether a decimal and the one of this text are equal.
-fn equals(decimal: &Decimal<'_>, text: &str) -> Option<bool> {
-    match Decimal::new(text) {
-        Some(other) => Some(*decimal == other),
-        None => None,
-    }
-}
-
-/// Whether the decimals of two texts are equal.
-fn are_equal(text: &str, other: &str) -> Option<bool> {
-    match Decimal::new(text) {
-        Some(decimal) => equals(&decimal, other),
-        None => None,
-    }
-}
-
-/// The same, the first in memory of its own.
-fn owned_is_equal(alloc: Global, text: &str, other: &str) -> Option<bool> {
-    match Decimal::new(text) {
-        Some(decimal) => match decimal.into_owned(alloc) {
-            Ok(owned) => equals(&owned, other),
-            Err(_) => None,
-        },
-        None => None,
-    }
-}
-
-/// Whether both answer this.
-fn holds(alloc: Global, text: &str, other: &str, equal: bool) -> bool {
-    are_equal(text, other) == Some(equal) && owned_is_equal(alloc, text, other) == Some(equal)
 }
 
 #[test]
 fn decimals_are_their_texts(rt: HostRuntime) {
-    for (text, other, equal) in &PAIRS {
-        assert!(rt; holds(rt.alloc(), *text, *other, *equal), "{other}");
+    let alloc = rt.alloc();
+    for text in &TEXTS {
+        assert!(rt; is_decimal(alloc, *text), "{text}");
+    }
+    for text in &REFUSED {
+        assert!(rt; Decimal::new(*text).is_none(), "{text}");
+    }
+    for &(text, other, equal) in &PAIRS {
+        assert!(rt; are_equal(alloc, text, other) == Some(equal), "{other}");
     }
 }

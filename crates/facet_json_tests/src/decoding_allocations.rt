@@ -3,6 +3,7 @@
 //! request is refused in a run, memory runs out in one of the two at most, and the other gives the whole answer. What takes none gives
 //! it always.
 
+use crate::twice::but_once;
 use facet_format::numeral::NumberHint;
 use facet_format::{Decimal, Span};
 use facet_json_scan::{
@@ -13,11 +14,6 @@ use facet_json_scan::{
 };
 use std::alloc::Global;
 use std::borrow::CowStr;
-
-/// Whether a call that was made twice gave its whole answer, but for one time at most in which memory ran out.
-fn but_once(first: Option<bool>, again: Option<bool>) -> bool {
-    first.unwrap_or(true) && again.unwrap_or(true) && (first.is_some() || again.is_some())
-}
 
 /// A string's content, its text or refusal, and whether strict mode has it.
 type Row = (&'static str, Result<&'static str, ScanError>, bool);

@@ -1,5 +1,6 @@
 //! Trees that are read within a depth: what the least depth is that takes them, and how they are refused below it.
 
+use crate::strict::is_tree;
 use facet_format::{DeserializeError, DeserializeErrorKind, Span};
 use facet_json_tree::{
     Tree, tree_from_slice, tree_from_slice_within, tree_from_slice_within_jsonc,
@@ -10,14 +11,6 @@ use std::alloc::Global;
 fn is_read(alloc: Global, input: &[u8], depth: usize) -> bool {
     match tree_from_slice(alloc, input) {
         Ok(tree) => is_tree(tree_from_slice_within(alloc, input, depth), &tree),
-        Err(_) => false,
-    }
-}
-
-/// Whether the answer is this tree.
-fn is_tree(answer: Result<Tree, DeserializeError<'_>>, wanted: &Tree) -> bool {
-    match answer {
-        Ok(tree) => tree.is_same(wanted),
         Err(_) => false,
     }
 }
@@ -48,14 +41,6 @@ static READ: [(&[u8], usize); 6] = [
     (b"{\"a\":{},\"b\":{\"c\":{}}}", usize::MAX),
 ];
 
-#[test]
-fn a_depth_takes_what_nests_no_deeper(rt: HostRuntime) {
-    let alloc = rt.alloc();
-    for &(input, depth) in &READ {
-        assert!(rt; is_read(alloc, input, depth));
-    }
-}
-
 /// Inputs, depths that are too small for them, and where the first bracket beyond stands.
 static TOO_DEEP: [(&[u8], usize, usize); 6] = [
     (b" []", 0, 1),
@@ -66,14 +51,6 @@ static TOO_DEEP: [(&[u8], usize, usize); 6] = [
     (b"[[}", 1, 1),
 ];
 
-#[test]
-fn the_first_bracket_beyond_is_refused(rt: HostRuntime) {
-    let alloc = rt.alloc();
-    for &(input, depth, offset) in &TOO_DEEP {
-        assert!(rt; is_too_deep(tree_from_slice_within(alloc, input, depth), offset));
-    }
-}
-
 /// Whether the answer is that a token at the offset is refused.
 fn is_token(answer: Result<Tree, DeserializeError<'_>>, offset: usize) -> bool {
     match answer {
@@ -82,21 +59,9 @@ fn is_token(answer: Result<Tree, DeserializeError<'_>>, offset: usize) -> bool {
     }
 }
 
-#[test]
-fn what_stands_first_is_refused(rt: HostRuntime) {
-    assert!(rt; is_token(tree_from_slice_within(rt.alloc(), b"[}[[", 1), 1));
-}
-
 /// Whether the input with comments is read within the depth.
 fn is_read_jsonc(alloc: Global, input: &[u8], depth: usize) -> bool {
     tree_from_slice_within_jsonc(alloc, input, depth).is_ok()
-}
-
-#[test]
-fn brackets_in_comments_count_nothing(rt: HostRuntime) {
-    let alloc = rt.alloc();
-    assert!(rt; is_read_jsonc(alloc, b"[/* [[ */ 1]", 1));
-    assert!(rt; is_too_deep(tree_from_slice_within_jsonc(alloc, b"// [\n[[", 1), 6));
 }
 
 /// Whether as many opening brackets are refused within the depth, with comments and without.
@@ -111,7 +76,21 @@ fn brackets_are_refused(alloc: Global, count: usize, depth: usize) -> bool {
     }
 }
 
+/// Whether brackets in comments count nothing, and others do.
+fn comments_count_nothing(alloc: Global) -> bool {
+    is_read_jsonc(alloc, b"[/* [[ */ 1]", 1)
+        && is_too_deep(tree_from_slice_within_jsonc(alloc, b"// [\n[[", 1), 6)
+}
+
 #[test]
-fn a_hundred_thousand_brackets_are_refused(rt: HostRuntime) {
-    assert!(rt; brackets_are_refused(rt.alloc(), 100_000, 100));
+fn a_depth_takes_what_nests_no_deeper(rt: HostRuntime) {
+    let alloc = rt.alloc();
+    for &(input, depth) in &READ {
+        assert!(rt; is_read(alloc, input, depth));
+    }
+    for &(input, depth, offset) in &TOO_DEEP {
+        assert!(rt; is_too_deep(tree_from_slice_within(alloc, input, depth), offset));
+    }
+    assert!(rt; is_token(tree_from_slice_within(alloc, b"[}[[", 1), 1));
+    assert!(rt; comments_count_nothing(alloc) && brackets_are_refused(alloc, 100_000, 100));
 }

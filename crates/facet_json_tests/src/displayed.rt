@@ -1,7 +1,8 @@
 //! Values as `{}` shows them.
 
+use crate::error_samples::is_displayed;
 use crate::samples::each_kind;
-use facet_json_tree::{Tree, tree_from_slice};
+use facet_json_tree::tree_from_slice;
 use std::alloc::Global;
 
 /// A document, and how its value is shown: without white space, and with an escape for quotes, backslashes, DEL and characters below
@@ -22,26 +23,11 @@ static ROWS: [(&str, &str); 7] = [
     (r#"{"\n\u00e9":"\ud83d\ude00\"中"}"#, r#"{"\né":"😀\"中"}"#),
 ];
 
-/// Whether the value is shown so.
-fn is_shown(alloc: Global, tree: &Tree, text: &str) -> bool {
-    match format!(in alloc; "{tree}") {
-        Ok(shown) => shown.as_str() == text,
-        Err(_) => false,
-    }
-}
-
 /// Whether the document's value is shown so.
 fn shows(alloc: Global, document: &str, text: &str) -> bool {
     match tree_from_slice(alloc, document.as_bytes()) {
-        Ok(tree) => is_shown(alloc, &tree, text),
+        Ok(tree) => is_displayed(alloc, &tree, text),
         Err(_) => false,
-    }
-}
-
-#[test]
-fn values_are_shown_compact(rt: HostRuntime) {
-    for row in &ROWS {
-        assert!(rt; shows(rt.alloc(), row.0, row.1), "{}", row.0);
     }
 }
 
@@ -49,11 +35,19 @@ fn values_are_shown_compact(rt: HostRuntime) {
 const EACH_KIND: &str =
     r#"[null,"x",-1,-170141183460469231731687303715884105728,340282366920938463463374607431768211455,1.50,"a text",[1,255],[1, 2],{ },{"a":1,"b":[true,null,[]],"a":3}]"#;
 
-#[test]
-fn each_kind_is_shown(rt: HostRuntime) {
-    let alloc = rt.alloc();
+/// Whether that list is.
+fn shows_each_kind(alloc: Global) -> bool {
     match each_kind(alloc) {
-        Ok(tree) => assert!(rt; is_shown(alloc, &tree, EACH_KIND)),
-        Err(_) => panic!(rt),
+        Ok(tree) => is_displayed(alloc, &tree, EACH_KIND),
+        Err(_) => false,
     }
+}
+
+#[test]
+fn values_are_shown_compact(rt: HostRuntime) {
+    let alloc = rt.alloc();
+    for row in &ROWS {
+        assert!(rt; shows(alloc, row.0, row.1), "{}", row.0);
+    }
+    assert!(rt; shows_each_kind(alloc));
 }

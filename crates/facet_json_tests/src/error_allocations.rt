@@ -3,14 +3,10 @@
 //! one request is refused in a run, memory runs out in one of the two at most, and the other gives the whole answer.
 
 use crate::error_samples::{Sample, Scan, is_labelled, made};
+use crate::twice::but_once;
 use facet_format::{DeserializeErrorKind, Span};
 use facet_json_core::{JsonError, JsonErrorKind};
 use std::alloc::{AllocError, Global};
-
-/// Whether a call that was made twice gave its whole answer, but for one time at most in which memory ran out.
-fn but_once(first: Option<bool>, again: Option<bool>) -> bool {
-    first.unwrap_or(true) && again.unwrap_or(true) && (first.is_some() || again.is_some())
-}
 
 /// A kind of each sort, and its label.
 static ROWS: [(Sample, &str); 31] = [
@@ -119,15 +115,6 @@ fn has_label(alloc: Global, sample: Sample, label: &str) -> Option<bool> {
     }
 }
 
-#[test]
-fn a_growth_is_refused_in_a_label(rt: HostRuntime) {
-    let alloc = rt.alloc();
-    for &(sample, label) in &ROWS {
-        let first = has_label(alloc, sample, label);
-        assert!(rt; but_once(first, has_label(alloc, sample, label)), "{label}");
-    }
-}
-
 /// An error with a source.
 fn twice_in(alloc: Global, source: &str) -> Result<JsonError, AllocError> {
     let key = String::from_str(alloc, "a")?;
@@ -167,7 +154,11 @@ fn gets_source(alloc: Global) -> Option<bool> {
 }
 
 #[test]
-fn a_refused_source_leaves_the_error(rt: HostRuntime) {
+fn a_growth_is_refused_in_a_label_and_a_source(rt: HostRuntime) {
     let alloc = rt.alloc();
+    for &(sample, label) in &ROWS {
+        let first = has_label(alloc, sample, label);
+        assert!(rt; but_once(first, has_label(alloc, sample, label)), "{label}");
+    }
     assert!(rt; but_once(gets_source(alloc), gets_source(alloc)));
 }

@@ -1,29 +1,39 @@
 //! Texts between quotes.
 
-use crate::written::writes_text;
+use crate::written::{Call, Layout, Row};
 
-#[test]
-fn delete_is_escaped(rt: HostRuntime) {
-    assert!(rt;
-        writes_text(
-            rt.alloc(),
-            "aaaaaaaaaaaaaaa\u{7f}",
-            "\"aaaaaaaaaaaaaaa\\u007f\""
-        )
-    );
-}
-
-#[test]
-fn other_characters_than_ascii_stand_as_they_are(rt: HostRuntime) {
-    assert!(rt; writes_text(rt.alloc(), "中文\n", "\"中文\\n\""));
-    assert!(rt; writes_text(rt.alloc(), "aaaaaaaaaaaaaaaé", "\"aaaaaaaaaaaaaaaé\""));
-    assert!(rt; writes_text(rt.alloc(), "😀\r\n🎊", "\"😀\\r\\n🎊\""));
-}
-
-#[test]
-fn each_escape_is_written(rt: HostRuntime) {
-    let alloc = rt.alloc();
-    assert!(rt; writes_text(alloc, "\"\\\n\r\t\u{8}\u{c}", "\"\\\"\\\\\\n\\r\\t\\b\\f\""));
-    assert!(rt; writes_text(alloc, "\u{0}\u{1f}\u{b}/", "\"\\u0000\\u001f\\u000b/\""));
-    assert!(rt; writes_text(alloc, "", "\"\""));
-}
+/// Characters that are escaped, and others, past ASCII too, that stand as they are.
+pub static ESCAPES: [Row; 7] = [
+    (
+        Layout::Compact,
+        &[Call::Text("aaaaaaaaaaaaaaa\u{7f}")],
+        &[],
+        "\"aaaaaaaaaaaaaaa\\u007f\"",
+    ),
+    (Layout::Compact, &[Call::Text("中文\n")], &[], "\"中文\\n\""),
+    (
+        Layout::Compact,
+        &[Call::Text("aaaaaaaaaaaaaaaé")],
+        &[],
+        "\"aaaaaaaaaaaaaaaé\"",
+    ),
+    (
+        Layout::Compact,
+        &[Call::Text("😀\r\n🎊")],
+        &[],
+        "\"😀\\r\\n🎊\"",
+    ),
+    (
+        Layout::Compact,
+        &[Call::Text("\"\\\n\r\t\u{8}\u{c}")],
+        &[],
+        "\"\\\"\\\\\\n\\r\\t\\b\\f\"",
+    ),
+    (
+        Layout::Compact,
+        &[Call::Text("\u{0}\u{1f}\u{b}/")],
+        &[],
+        "\"\\u0000\\u001f\\u000b/\"",
+    ),
+    (Layout::Compact, &[Call::Text("")], &[], "\"\""),
+];

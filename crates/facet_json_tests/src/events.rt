@@ -1,104 +1,66 @@
 //! Events: what they derive, and copies of each kind.
 
 use crate::values::shows;
+use crate::written::{Scalar, value_of};
 use facet_format::{
-    ContainerKind, Decimal, FieldKey, FieldLocationHint, ParseEvent, ParseEventKind, SavePoint,
-    ScalarValue, Span,
+    ContainerKind, Decimal, FieldKey, FieldLocationHint, ParseEvent, ParseEventKind, ScalarValue,
+    Span,
 };
 use std::alloc::Global;
 use std::borrow::CowStr;
-use std::process::Abort;
 
-/// Whether a copy is equal to the event, and an event elsewhere isn't.
-fn is_copied(alloc: Global, event: &ParseEvent<'_>) -> bool {
+/// Whether a copy is equal to the event, and an event elsewhere isn't, and its kind is shown so.
+fn is_kept(alloc: Global, event: &ParseEvent<'_>, shown: &str) -> bool {
     match event.clone(alloc) {
         Ok(mut copy) => {
             let is_equal = copy == *event;
             copy.span = Span::new(3, 5);
-            is_equal && copy != *event
+            is_equal && copy != *event && shows(alloc, &event.kind, shown)
         }
         Err(_) => false,
     }
 }
 
-/// Whether the event is copied, and its kind is shown so.
-fn is_kept(alloc: Global, event: &ParseEvent<'_>, shown: &str) -> bool {
-    is_copied(alloc, event) && shows(alloc, &event.kind, shown)
+/// A kind, by what it holds: what is owned is in memory of its own, and the rest is lent.
+#[derive(Clone, Copy)]
+pub enum Kind {
+    Object,
+    ObjectEnd,
+    Array,
+    ArrayEnd,
+    Scalar(Scalar<'static>),
+    Key(&'static str),
+    OwnedText(&'static str),
+    OwnedKey(&'static str),
+    OwnedDecimal(&'static str),
 }
 
-/// The same of an event of this kind.
-fn holds(alloc: Global, kind: ParseEventKind<'_>, shown: &str) -> bool {
-    is_kept(alloc, &ParseEvent::new(kind, Span::new(3, 4)), shown)
-}
-
-fn expect(rt: &impl Abort, alloc: Global, kind: ParseEventKind<'_>, shown: &str) {
-    assert!(rt; holds(alloc, kind, shown), "{shown}");
-}
-
-fn expect_scalar(rt: &impl Abort, alloc: Global, value: ScalarValue<'_>, shown: &str) {
-    expect(rt, alloc, ParseEventKind::Scalar(value), shown);
-}
-
-#[test]
-fn brackets(rt: HostRuntime) {
-    let alloc = rt.alloc();
-    let object = ParseEventKind::StructStart(ContainerKind::Object);
-    expect(&rt, alloc, object, "StructStart(Object)");
-    expect(&rt, alloc, ParseEventKind::StructEnd, "StructEnd");
-    let array = ParseEventKind::SequenceStart(ContainerKind::Array);
-    expect(&rt, alloc, array, "SequenceStart(Array)");
-    expect(&rt, alloc, ParseEventKind::SequenceEnd, "SequenceEnd");
-}
-
-#[test]
-fn scalars(rt: HostRuntime) {
-    let alloc = rt.alloc();
-    expect_scalar(&rt, alloc, ScalarValue::Null, "Scalar(Null)");
-    expect_scalar(&rt, alloc, ScalarValue::Unit, "Scalar(Unit)");
-    expect_scalar(&rt, alloc, ScalarValue::Bool(true), "Scalar(Bool(true))");
-    expect_scalar(&rt, alloc, ScalarValue::Char('x'), "Scalar(Char('x'))");
-    expect_scalar(&rt, alloc, ScalarValue::I64(-1), "Scalar(I64(-1))");
-    expect_scalar(&rt, alloc, ScalarValue::U64(1), "Scalar(U64(1))");
-    expect_scalar(&rt, alloc, ScalarValue::I128(-2), "Scalar(I128(-2))");
-    expect_scalar(&rt, alloc, ScalarValue::U128(2), "Scalar(U128(2))");
-    let bytes = ScalarValue::Bytes(&[1, 255]);
-    expect_scalar(&rt, alloc, bytes, "Scalar(Bytes([1, 255]))");
-}
-
-/// Whether an event is copied that has an owned text as its value.
-fn owned_text_holds(alloc: Global, text: &str, shown: &str) -> bool {
-    match String::from_str(alloc, text) {
-        Ok(text) => {
-            let value = ScalarValue::Str(CowStr::Owned(text));
-            holds(alloc, ParseEventKind::Scalar(value), shown)
+/// The event of this kind, where memory suffices.
+pub fn made(alloc: Global, kind: Kind) -> Option<ParseEvent<'static>> {
+    let kind = match kind {
+        Kind::Object => ParseEventKind::StructStart(ContainerKind::Object),
+        Kind::ObjectEnd => ParseEventKind::StructEnd,
+        Kind::Array => ParseEventKind::SequenceStart(ContainerKind::Array),
+        Kind::ArrayEnd => ParseEventKind::SequenceEnd,
+        Kind::Scalar(scalar) => ParseEventKind::Scalar(value_of(scalar)),
+        Kind::Key(name) => key(CowStr::Borrowed(name)),
+        Kind::OwnedText(text) => ParseEventKind::Scalar(ScalarValue::Str(owned(alloc, text)?)),
+        Kind::OwnedKey(name) => key(owned(alloc, name)?),
+        Kind::OwnedDecimal(text) => {
+            ParseEventKind::Scalar(ScalarValue::Decimal(owned_decimal(alloc, text)?))
         }
-        Err(_) => false,
-    }
+    };
+    Some(ParseEvent::new(kind, Span::new(3, 4)))
 }
 
-/// Whether an event is copied that has an owned text as its field's name.
-fn owned_key_holds(alloc: Global, name: &str, shown: &str) -> bool {
-    match String::from_str(alloc, name) {
-        Ok(name) => {
-            let key = FieldKey::new(CowStr::Owned(name), FieldLocationHint::KeyValue);
-            holds(alloc, ParseEventKind::FieldKey(key), shown)
-        }
-        Err(_) => false,
-    }
+/// The key of this name.
+fn key(name: CowStr<'static>) -> ParseEventKind<'static> {
+    ParseEventKind::FieldKey(FieldKey::new(name, FieldLocationHint::KeyValue))
 }
 
-#[test]
-fn texts_and_keys(rt: HostRuntime) {
-    let alloc = rt.alloc();
-    let text = ScalarValue::Str(CowStr::Borrowed("ab"));
-    expect_scalar(&rt, alloc, text, "Scalar(Str(\"ab\"))");
-    let shown = "Scalar(Str(\"c\"))";
-    assert!(rt; owned_text_holds(alloc, "c", shown), "{shown}");
-    let key = FieldKey::new(CowStr::Borrowed("ab"), FieldLocationHint::KeyValue);
-    let shown = "FieldKey(FieldKey { name: \"ab\", hint: KeyValue })";
-    expect(&rt, alloc, ParseEventKind::FieldKey(key), shown);
-    let shown = "FieldKey(FieldKey { name: \"c\", hint: KeyValue })";
-    assert!(rt; owned_key_holds(alloc, "c", shown), "{shown}");
+/// A text of its own.
+fn owned(alloc: Global, text: &str) -> Option<CowStr<'static>> {
+    Some(CowStr::Owned(String::from_str(alloc, text).ok()?))
 }
 
 /// A copy of the decimal of this text, in memory of its own.
@@ -109,43 +71,59 @@ fn owned_decimal(alloc: Global, text: &str) -> Option<Decimal<'static>> {
     }
 }
 
-fn decimal_holds(alloc: Global, decimal: Option<Decimal<'_>>, shown: &str) -> bool {
-    match decimal {
-        Some(decimal) => holds(
-            alloc,
-            ParseEventKind::Scalar(ScalarValue::Decimal(decimal)),
-            shown,
-        ),
+/// Kinds, and how they are shown.
+static KINDS: [(Kind, &str); 19] = [
+    (Kind::Object, "StructStart(Object)"),
+    (Kind::ObjectEnd, "StructEnd"),
+    (Kind::Array, "SequenceStart(Array)"),
+    (Kind::ArrayEnd, "SequenceEnd"),
+    (Kind::Scalar(Scalar::Null), "Scalar(Null)"),
+    (Kind::Scalar(Scalar::Unit), "Scalar(Unit)"),
+    (Kind::Scalar(Scalar::Bool(true)), "Scalar(Bool(true))"),
+    (Kind::Scalar(Scalar::Char('x')), "Scalar(Char('x'))"),
+    (Kind::Scalar(Scalar::I64(-1)), "Scalar(I64(-1))"),
+    (Kind::Scalar(Scalar::U64(1)), "Scalar(U64(1))"),
+    (Kind::Scalar(Scalar::I128(-2)), "Scalar(I128(-2))"),
+    (Kind::Scalar(Scalar::U128(2)), "Scalar(U128(2))"),
+    (
+        Kind::Scalar(Scalar::Bytes(&[1, 255])),
+        "Scalar(Bytes([1, 255]))",
+    ),
+    (Kind::Scalar(Scalar::Text("ab")), "Scalar(Str(\"ab\"))"),
+    (
+        Kind::Scalar(Scalar::Decimal("1.50")),
+        "Scalar(Decimal(Decimal(\"1.50\")))",
+    ),
+    (
+        Kind::Key("ab"),
+        "FieldKey(FieldKey { name: \"ab\", hint: KeyValue })",
+    ),
+    (Kind::OwnedText("c"), "Scalar(Str(\"c\"))"),
+    (
+        Kind::OwnedKey("c"),
+        "FieldKey(FieldKey { name: \"c\", hint: KeyValue })",
+    ),
+    (
+        Kind::OwnedDecimal("1.50"),
+        "Scalar(Decimal(Decimal(\"1.50\")))",
+    ),
+];
+
+/// Whether an event of this kind is copied and shown so.
+fn holds(alloc: Global, kind: Kind, shown: &str) -> bool {
+    match made(alloc, kind) {
+        Some(event) => is_kept(alloc, &event, shown),
         None => false,
     }
 }
 
-#[test]
-fn decimals(rt: HostRuntime) {
-    let alloc = rt.alloc();
-    let shown = "Scalar(Decimal(Decimal(\"1.50\")))";
-    assert!(rt;
-        decimal_holds(alloc, Decimal::new("1.50"), shown),
-        "borrowed"
-    );
-    assert!(rt;
-        decimal_holds(alloc, owned_decimal(alloc, "1.50"), shown),
-        "owned"
-    );
-}
-
-/// Whether a copy of the event has this text, borrowed.
-fn copy_borrows(alloc: Global, event: &ParseEvent<'_>, text: &str) -> bool {
+/// Whether a copy of an event of this kind has this text, borrowed.
+fn copy_borrows(alloc: Global, kind: Kind, text: &str) -> Option<bool> {
+    let event = made(alloc, kind)?;
     match event.clone(alloc) {
-        Ok(copy) => is_borrowed(&copy.kind, text),
-        Err(_) => false,
+        Ok(copy) => Some(is_borrowed(&copy.kind, text)),
+        Err(_) => None,
     }
-}
-
-/// Whether a copy of a borrowed text is borrowed.
-fn stays_borrowed(alloc: Global, text: &str) -> bool {
-    let kind = ParseEventKind::Scalar(ScalarValue::Str(CowStr::Borrowed(text)));
-    copy_borrows(alloc, &ParseEvent::new(kind, Span::new(0, 4)), text)
 }
 
 fn is_borrowed(kind: &ParseEventKind<'_>, text: &str) -> bool {
@@ -156,15 +134,10 @@ fn is_borrowed(kind: &ParseEventKind<'_>, text: &str) -> bool {
 }
 
 #[test]
-fn a_copy_stays_borrowed(rt: HostRuntime) {
-    assert!(rt; stays_borrowed(rt.alloc(), "ab"));
-}
-
-#[test]
-fn save_points(rt: HostRuntime) {
-    let point = SavePoint(7);
-    let copy = point;
-    assert!(rt; copy == point);
-    assert!(rt; copy != SavePoint(8));
-    assert!(rt; shows(rt.alloc(), &point, "SavePoint(7)"));
+fn events_are_copied_and_shown(rt: HostRuntime) {
+    let alloc = rt.alloc();
+    for &(kind, shown) in &KINDS {
+        assert!(rt; holds(alloc, kind, shown), "{shown}");
+    }
+    assert!(rt; copy_borrows(alloc, Kind::Scalar(Scalar::Text("ab")), "ab") == Some(true));
 }

@@ -1,6 +1,8 @@
 //! Kinds: their name, their message and their label.
 
 use crate::error_samples::{Row, Sample, Scan, expect_told};
+use crate::own::{READ, WRITTEN};
+use crate::past_ascii::PAST_ASCII;
 
 static ROWS: [Row; 21] = [
     // Scans.
@@ -139,5 +141,9 @@ static ROWS: [Row; 21] = [
 
 #[test]
 fn each_kind_is_told(rt: HostRuntime) {
-    expect_told(&rt, rt.alloc(), &ROWS);
+    let alloc = rt.alloc();
+    expect_told(&rt, alloc, &ROWS);
+    expect_told(&rt, alloc, &READ);
+    expect_told(&rt, alloc, &WRITTEN);
+    expect_told(&rt, alloc, &PAST_ASCII);
 }

@@ -88,6 +88,8 @@ mod tree_allocations;
 #[cfg(test)]
 mod trees;
 #[cfg(test)]
+mod twice;
+#[cfg(test)]
 mod values;
 #[cfg(test)]
 mod write_allocations;

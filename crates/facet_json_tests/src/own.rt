@@ -1,10 +1,10 @@
 //! The kinds of this library's own: what its reader's and its writer's refusals become, and out of memory.
 
-use crate::error_samples::{Row, Sample, expect_told};
+use crate::error_samples::{Row, Sample};
 use facet_format::DeserializeErrorKind;
 
 /// Refusals of readers.
-static READ: [Row; 17] = [
+pub static READ: [Row; 17] = [
     (
         Sample::Read(DeserializeErrorKind::UnexpectedChar {
             ch: 'x',
@@ -134,7 +134,7 @@ static READ: [Row; 17] = [
 ];
 
 /// Refusals of writers, and out of memory.
-static WRITTEN: [Row; 5] = [
+pub static WRITTEN: [Row; 5] = [
     (
         Sample::KeyOutside,
         "json::write",
@@ -166,9 +166,3 @@ static WRITTEN: [Row; 5] = [
         "out of memory",
     ),
 ];
-
-#[test]
-fn refusals_are_told(rt: HostRuntime) {
-    expect_told(&rt, rt.alloc(), &READ);
-    expect_told(&rt, rt.alloc(), &WRITTEN);
-}

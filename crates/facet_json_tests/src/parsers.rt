@@ -141,11 +141,6 @@ fn counted(left: usize) -> Result<usize, ParseError<'static>> {
     count(&mut Nulls { left })
 }
 
-#[test]
-fn three_events_come(rt: HostRuntime) {
-    assert!(rt; counted(3) == Ok(3));
-}
-
 /// How many values are skipped before a refusal.
 fn skipped<'de, P: FormatParser<'de>>(parser: &mut P) -> usize
     requires fits { P.ahead parser.old < 2 ^ 64 }
@@ -172,18 +167,6 @@ fn raw_of(left: usize) -> Option<&'static str> {
     raw(&mut Nulls { left })
 }
 
-#[test]
-fn values_are_skipped_until_a_refusal(rt: HostRuntime) {
-    assert!(rt; skipped_of(3) == 3);
-    assert!(rt; skipped_of(0) == 0);
-}
-
-#[test]
-fn raw_text_is_captured(rt: HostRuntime) {
-    assert!(rt; raw_of(1) == Some("null"));
-    assert!(rt; raw_of(0) == None);
-}
-
 /// Whether a peek shows what the next call gives.
 fn peek_shows_next(left: usize) -> bool {
     match peek_and_next(&mut Nulls { left }) {
@@ -193,18 +176,16 @@ fn peek_shows_next(left: usize) -> bool {
 }
 
 #[test]
-fn a_peek_shows_the_next_event(rt: HostRuntime) {
-    assert!(rt; peek_shows_next(3));
+fn events_come_and_values_are_skipped(rt: HostRuntime) {
+    assert!(rt; counted(3) == Ok(3) && peek_shows_next(3));
+    assert!(rt; skipped_of(3) == 3 && skipped_of(0) == 0);
+    assert!(rt; raw_of(1) == Some("null") && raw_of(0) == None);
 }
 
 #[test]
-fn a_span_is_always_there(rt: HostRuntime) {
+fn a_span_is_always_there_and_refused_growths_are_kind_9(rt: HostRuntime) {
     assert!(rt; position(&Nulls { left: 4 }) == 7);
     assert!(rt; position(&Nulls { left: usize::MAX }) == usize::MAX);
-}
-
-#[test]
-fn refused_growths_are_kind_9(rt: HostRuntime) {
     assert!(rt; code_of_growth(&Nulls { left: 4 }) == 9);
     assert!(rt; DeserializeError::out_of_memory().kind.code() == 9);
 }

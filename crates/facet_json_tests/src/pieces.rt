@@ -22,27 +22,10 @@ fn is_read(alloc: Global, row: &Row, step: usize) -> bool {
     row.is(&scan) && source.was_asked_well() && !source.has_failed()
 }
 
-#[test]
-fn pieces_make_no_difference(rt: HostRuntime) {
-    for row in &ROWS {
-        for step in &STEPS {
-            assert!(rt; is_read(rt.alloc(), row, *step));
-        }
-    }
-}
-
 /// Whether a reader of the row's input gives the row.
 fn is_read_from<R: Read>(alloc: Global, row: &Row, reader: &mut R) -> bool {
     let mut source = Marked::new(reader);
     row.is(&scan_reader(alloc, &mut source, 2, row.comments))
-}
-
-#[test]
-fn a_reader_is_a_source(rt: HostRuntime) {
-    for row in &ROWS {
-        let mut reader = row.input;
-        assert!(rt; is_read_from(rt.alloc(), row, &mut reader));
-    }
 }
 
 /// Whether the read of this number, where it comes, is told of, and else the row is given.
@@ -59,17 +42,6 @@ fn is_told(alloc: Global, row: &Row, step: usize, read: usize) -> bool {
     }
 }
 
-#[test]
-fn each_failed_read_is_told(rt: HostRuntime) {
-    for row in &ROWS {
-        for step in 1..4 {
-            for read in 0..MANY_READS {
-                assert!(rt; is_told(rt.alloc(), row, step, read));
-            }
-        }
-    }
-}
-
 /// How many bytes are read of the input, one at a time.
 fn bytes_read(alloc: Global, input: &[u8]) -> Option<usize> {
     let mut source = Halves::new(input, 1, MANY_READS);
@@ -77,8 +49,28 @@ fn bytes_read(alloc: Global, input: &[u8]) -> Option<usize> {
     Some(scanned.buf.len())
 }
 
+/// Whether a reader of the row's input gives the row, and pieces of each length do.
+fn is_read_in_pieces(alloc: Global, row: &Row) -> bool {
+    for step in &STEPS {
+        if !is_read(alloc, row, *step) {
+            return false;
+        }
+    }
+    let mut reader = row.input;
+    is_read_from(alloc, row, &mut reader)
+}
+
 #[test]
-fn nothing_is_read_after_a_refusal(rt: HostRuntime) {
-    assert!(rt; bytes_read(rt.alloc(), b"[1 x2,3]") == Some(4));
-    assert!(rt; bytes_read(rt.alloc(), b"[1, 2,3]") == Some(8));
+fn pieces_make_no_difference(rt: HostRuntime) {
+    let alloc = rt.alloc();
+    for row in &ROWS {
+        assert!(rt; is_read_in_pieces(alloc, row));
+        for step in 1..4 {
+            for read in 0..MANY_READS {
+                assert!(rt; is_told(alloc, row, step, read));
+            }
+        }
+    }
+    assert!(rt; bytes_read(alloc, b"[1 x2,3]") == Some(4));
+    assert!(rt; bytes_read(alloc, b"[1, 2,3]") == Some(8));
 }

@@ -45,16 +45,6 @@ fn lacks(alloc: Global, input: &str, pointer: &str, passed: usize) -> bool {
             .is_some_and(|span| span.end() == passed)
 }
 
-#[test]
-fn the_pointers_of_the_rfc_lead_to_their_values(rt: HostRuntime) {
-    for &(pointer, wanted) in &NAMED {
-        assert!(rt;
-            names(rt.alloc(), DOCUMENT, pointer, wanted),
-            "at {pointer}"
-        );
-    }
-}
-
 /// Inputs, pointers that lead into them, and what these name.
 static WITHIN: [Named; 19] = [
     (r#"{"a":[0,{"b":[1,2]}]}"#, "/a/1/b/1", "2"),
@@ -78,11 +68,6 @@ static WITHIN: [Named; 19] = [
     (" [ 1 , 2 ] ", "/1", "2"),
 ];
 
-#[test]
-fn tokens_lead_into_a_value(rt: HostRuntime) {
-    expect_named(&rt, rt.alloc(), &WITHIN);
-}
-
 /// The same with escapes in keys.
 static ESCAPED: [Named; 6] = [
     (r#"{"\u0061":1}"#, "/a", "1"),
@@ -93,11 +78,6 @@ static ESCAPED: [Named; 6] = [
     (r#"{"\ud83d\ude00":1}"#, "/😀", "1"),
 ];
 
-#[test]
-fn escaped_keys_are_found_by_their_text(rt: HostRuntime) {
-    expect_named(&rt, rt.alloc(), &ESCAPED);
-}
-
 /// The same with a key that comes twice.
 static TWICE: [Named; 3] = [
     (r#"{"a":1,"a":2}"#, "/a", "1"),
@@ -105,13 +85,8 @@ static TWICE: [Named; 3] = [
     (r#"{"\u0061":1,"a":2}"#, "/a", "1"),
 ];
 
-#[test]
-fn the_first_member_of_a_key_counts(rt: HostRuntime) {
-    expect_named(&rt, rt.alloc(), &TWICE);
-    assert!(rt; lacks(rt.alloc(), r#"{"a":{"b":1},"a":{"c":2}}"#, "/a/c", 12));
-}
-
-/// Pointers that name nothing in that document, and how much of it is passed.
+/// Pointers that name nothing in that document, and how much of it is passed: the whole object where the first token names nothing, and
+/// the value of `foo`, which ends at 20, where the second does.
 static UNNAMED: [(&str, usize); 20] = [
     ("/bar", 90),
     ("/FOO", 90),
@@ -135,19 +110,9 @@ static UNNAMED: [(&str, usize); 20] = [
     ("//0", 25),
 ];
 
-/// The whole object is passed where the first token names nothing, and the value of `foo`, which ends at 20, where the second does.
-#[test]
-fn other_pointers_name_nothing(rt: HostRuntime) {
-    for &(pointer, passed) in &UNNAMED {
-        assert!(rt;
-            lacks(rt.alloc(), DOCUMENT, pointer, passed),
-            "at {pointer}"
-        );
-    }
-}
-
 /// Inputs, pointers that name nothing in them, and how much is passed.
-static PASSED: [(&str, &str, usize); 13] = [
+static PASSED: [(&str, &str, usize); 14] = [
+    (r#"{"a":{"b":1},"a":{"c":2}}"#, "/a/c", 12),
     ("{}", "/a", 2),
     ("[]", "/0", 2),
     ("[1,2] ", "/2", 5),
@@ -167,16 +132,6 @@ static PASSED: [(&str, &str, usize); 13] = [
     ),
 ];
 
-#[test]
-fn the_value_in_which_nothing_is_named_is_passed(rt: HostRuntime) {
-    for &(input, pointer, passed) in &PASSED {
-        assert!(rt;
-            lacks(rt.alloc(), input, pointer, passed),
-            "{pointer} of {input}"
-        );
-    }
-}
-
 /// Whether the text is refused so, and the input is read from its start then.
 fn refuses(alloc: Global, text: &str, wanted: PointerError) -> bool {
     let mut parser = JsonParser::new(alloc, b"[7]");
@@ -187,13 +142,6 @@ fn refuses(alloc: Global, text: &str, wanted: PointerError) -> bool {
     refused
         && matches!(find_pointer(&mut parser, "/0"), Ok(true))
         && parser.current_span().is_some_and(|span| span.end() == 1)
-}
-
-#[test]
-fn what_is_no_pointer_is_refused(rt: HostRuntime) {
-    for &(text, wanted) in &REFUSED {
-        assert!(rt; refuses(rt.alloc(), text, wanted), "of {text}");
-    }
 }
 
 /// Whether the parser refuses what the search passes, with this span.
@@ -220,17 +168,8 @@ static STOPPED: [(&str, &str, usize, usize); 9] = [
     ("]", "/0", 0, 1),
 ];
 
-#[test]
-fn what_is_refused_before_the_value_is_told(rt: HostRuntime) {
-    for &(input, pointer, start, length) in &STOPPED {
-        assert!(rt;
-            stops(rt.alloc(), input, pointer, start, length),
-            "{pointer} of {input}"
-        );
-    }
-}
-
-/// Inputs with what no parser takes where the search does not come, pointers, and what they name.
+/// Inputs with what no parser takes where the search does not come, pointers, and what they name: what stands behind the value is not
+/// looked at, and before it no text is decoded but of keys.
 static NOT_PASSED: [Named; 6] = [
     ("{\"a\":1", "/a", "1"),
     ("{\"a\":[7", "/a/0", "7"),
@@ -239,12 +178,6 @@ static NOT_PASSED: [Named; 6] = [
     (r#"{"b":"\ud800","a":2}"#, "/a", "2"),
     (r#"{"b":{"\ud800":1},"a":2}"#, "/a", "2"),
 ];
-
-/// What stands behind the value is not looked at, and before it no text is decoded but of keys.
-#[test]
-fn what_is_not_passed_is_not_refused(rt: HostRuntime) {
-    expect_named(&rt, rt.alloc(), &NOT_PASSED);
-}
 
 /// Whether a value that comes after a member was read is found from there.
 fn finds_later(alloc: Global, input: &str) -> bool {
@@ -257,6 +190,42 @@ fn finds_later(alloc: Global, input: &str) -> bool {
 }
 
 #[test]
-fn a_search_begins_where_the_last_one_ended(rt: HostRuntime) {
-    assert!(rt; finds_later(rt.alloc(), r#"{"a":[{"b":12},3]}"#));
+fn a_pointer_leads_to_its_value(rt: HostRuntime) {
+    let alloc = rt.alloc();
+    for &(pointer, wanted) in &NAMED {
+        assert!(rt; names(alloc, DOCUMENT, pointer, wanted), "at {pointer}");
+    }
+    expect_named(&rt, alloc, &WITHIN);
+    expect_named(&rt, alloc, &ESCAPED);
+    expect_named(&rt, alloc, &TWICE);
+    expect_named(&rt, alloc, &NOT_PASSED);
+    assert!(rt; finds_later(alloc, r#"{"a":[{"b":12},3]}"#));
+}
+
+#[test]
+fn other_pointers_name_nothing(rt: HostRuntime) {
+    let alloc = rt.alloc();
+    for &(pointer, passed) in &UNNAMED {
+        assert!(rt; lacks(alloc, DOCUMENT, pointer, passed), "at {pointer}");
+    }
+    for &(input, pointer, passed) in &PASSED {
+        assert!(rt;
+            lacks(alloc, input, pointer, passed),
+            "{pointer} of {input}"
+        );
+    }
+}
+
+#[test]
+fn refusals_are_told(rt: HostRuntime) {
+    let alloc = rt.alloc();
+    for &(text, wanted) in &REFUSED {
+        assert!(rt; refuses(alloc, text, wanted), "of {text}");
+    }
+    for &(input, pointer, start, length) in &STOPPED {
+        assert!(rt;
+            stops(alloc, input, pointer, start, length),
+            "{pointer} of {input}"
+        );
+    }
 }

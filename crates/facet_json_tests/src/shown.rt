@@ -175,16 +175,12 @@ static ROWS: [Row; 19] = [
 ];
 
 #[test]
-fn readers_refusals(rt: HostRuntime) {
+fn refusals_are_reported(rt: HostRuntime) {
     let alloc = rt.alloc();
     for row in &ROWS {
         assert!(rt; is_reported(alloc, &error_of(row), row.source, row.shown));
     }
-}
-
-#[test]
-fn a_writers_refusal(rt: HostRuntime) {
     let error = JsonError::from(JsonSerializeError::NoListToEnd);
     let text = "end_seq called without matching begin_seq";
-    assert!(rt; is_reported(rt.alloc(), &error, "[1]", text));
+    assert!(rt; is_reported(alloc, &error, "[1]", text));
 }

@@ -18,7 +18,7 @@ fn is_read(alloc: Global, input: &[u8], depth: usize) -> bool {
 }
 
 /// Whether the answer is this tree.
-fn is_tree(answer: Result<Tree, DeserializeError<'_>>, wanted: &Tree) -> bool {
+pub fn is_tree(answer: Result<Tree, DeserializeError<'_>>, wanted: &Tree) -> bool {
     match answer {
         Ok(tree) => tree.is_same(wanted),
         Err(_) => false,
@@ -37,29 +37,6 @@ fn is_refusal(
     }
 }
 
-/// Whether strict mode refuses the bytes so, with no depth and within the greatest.
-fn refuses(alloc: Global, input: &[u8], kind: DeserializeErrorKind<'_>, span: Span) -> bool {
-    is_refusal(tree_from_slice_strict(alloc, input), span, &kind)
-        && is_refusal(
-            tree_from_slice_within_strict(alloc, input, usize::MAX),
-            span,
-            &kind,
-        )
-}
-
-/// The refusal of a byte or a scalar that may not stand there.
-fn unexpected(ch: char) -> DeserializeErrorKind<'static> {
-    DeserializeErrorKind::UnexpectedChar {
-        ch,
-        expected: "valid JSON token",
-    }
-}
-
-/// The refusal of a token that may not stand there.
-fn token(got: &'static str, expected: &'static str) -> DeserializeErrorKind<'static> {
-    DeserializeErrorKind::UnexpectedToken { got, expected }
-}
-
 /// Texts of the standard, and how deeply they nest.
 static READ: [(&[u8], usize); 3] = [
     (b"1", 0),
@@ -67,42 +44,103 @@ static READ: [(&[u8], usize); 3] = [
     (b"{\"a\":[-0.5e-3,\"\\u00e9\",null]}", 2),
 ];
 
+/// An input, the depth within which it is read, and how it is refused. Where there is no depth, it is so without one and within the
+/// greatest.
+type Refused = (
+    &'static [u8],
+    Option<usize>,
+    DeserializeErrorKind<'static>,
+    Span,
+);
+
+/// What only lenient mode takes, and what nests too deeply.
+static REFUSED: [Refused; 8] = [
+    (
+        b"[1,]",
+        None,
+        DeserializeErrorKind::UnexpectedToken {
+            got: "ArrayEnd",
+            expected: "value",
+        },
+        Span { offset: 3, len: 1 },
+    ),
+    (
+        b"007",
+        None,
+        DeserializeErrorKind::UnexpectedChar {
+            ch: '?',
+            expected: "valid JSON token",
+        },
+        Span { offset: 0, len: 3 },
+    ),
+    (
+        b"[\"\t\"]",
+        None,
+        DeserializeErrorKind::UnexpectedChar {
+            ch: '\t',
+            expected: "valid JSON token",
+        },
+        Span { offset: 2, len: 1 },
+    ),
+    (
+        b"1 2",
+        None,
+        DeserializeErrorKind::UnexpectedToken {
+            got: "U64",
+            expected: "end of input",
+        },
+        Span { offset: 2, len: 1 },
+    ),
+    (
+        b"1 x",
+        None,
+        DeserializeErrorKind::UnexpectedChar {
+            ch: 'x',
+            expected: "valid JSON token",
+        },
+        Span { offset: 2, len: 1 },
+    ),
+    (
+        b" []",
+        Some(0),
+        DeserializeErrorKind::InvalidValue {
+            message: "nested too deeply",
+        },
+        Span { offset: 1, len: 1 },
+    ),
+    (
+        b"[[1],[[2]]] x",
+        Some(2),
+        DeserializeErrorKind::InvalidValue {
+            message: "nested too deeply",
+        },
+        Span { offset: 6, len: 1 },
+    ),
+    (
+        b"[1] x",
+        Some(1),
+        DeserializeErrorKind::UnexpectedChar {
+            ch: 'x',
+            expected: "valid JSON token",
+        },
+        Span { offset: 4, len: 1 },
+    ),
+];
+
+/// Whether strict mode refuses the bytes so.
+fn refuses(alloc: Global, row: &Refused) -> bool {
+    let (input, depth, kind, span) = row;
+    let within = tree_from_slice_within_strict(alloc, *input, depth.unwrap_or(usize::MAX));
+    is_refusal(within, *span, kind)
+        && (depth.is_some() || is_refusal(tree_from_slice_strict(alloc, *input), *span, kind))
+}
+
 #[test]
-fn a_text_of_the_standard_is_read(rt: HostRuntime) {
+fn texts_of_the_standard_are_read_and_others_refused(rt: HostRuntime) {
     for &(input, depth) in &READ {
         assert!(rt; is_read(rt.alloc(), input, depth));
     }
-}
-
-#[test]
-fn what_only_lenient_mode_takes_is_refused(rt: HostRuntime) {
-    let alloc = rt.alloc();
-    assert!(rt; refuses(alloc, b"[1,]", token("ArrayEnd", "value"), Span::new(3, 1)));
-    assert!(rt; refuses(alloc, b"007", unexpected('?'), Span::new(0, 3)));
-    assert!(rt; refuses(alloc, b"[\"\t\"]", unexpected('\t'), Span::new(2, 1)));
-    assert!(rt; refuses(alloc, b"1 2", token("U64", "end of input"), Span::new(2, 1)));
-    assert!(rt; refuses(alloc, b"1 x", unexpected('x'), Span::new(2, 1)));
-}
-
-/// Whether strict mode refuses the bytes so within the depth.
-fn refuses_within(
-    alloc: Global,
-    input: &[u8],
-    depth: usize,
-    kind: DeserializeErrorKind<'_>,
-    offset: usize,
-) -> bool {
-    let answer = tree_from_slice_within_strict(alloc, input, depth);
-    is_refusal(answer, Span::new(offset, 1), &kind)
-}
-
-#[test]
-fn a_depth_is_refused_at_its_bracket(rt: HostRuntime) {
-    let alloc = rt.alloc();
-    let too_deep = DeserializeErrorKind::InvalidValue {
-        message: "nested too deeply",
-    };
-    assert!(rt; refuses_within(alloc, b" []", 0, too_deep, 1));
-    assert!(rt; refuses_within(alloc, b"[[1],[[2]]] x", 2, too_deep, 6));
-    assert!(rt; refuses_within(alloc, b"[1] x", 1, unexpected('x'), 4));
+    for row in &REFUSED {
+        assert!(rt; refuses(rt.alloc(), row));
+    }
 }

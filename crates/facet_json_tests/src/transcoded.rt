@@ -45,38 +45,88 @@ fn is_empty(written: Result<Vec<u8>, JsonSerializeError>) -> bool {
     }
 }
 
-/// An input, how many of its events are read before, what is got in place of a value, and where.
-static MISPLACED: [(&[u8], usize, &str, (usize, usize)); 6] = [
-    (b"{\"a\":1}", 1, "key", (1, 3)),
-    (b"{\"a\":1,\"b\":2}", 3, "key", (7, 3)),
-    (b"{}", 1, "end", (1, 1)),
-    (b"[]", 1, "end", (1, 1)),
-    (b"[1]", 2, "end", (2, 1)),
-    (b"{\"a\":1}", 3, "end", (6, 1)),
+/// An input, how many of its events are read before, and how what comes is refused.
+type Row = (&'static [u8], usize, DeserializeErrorKind<'static>, Span);
+
+/// Where no value begins, and where no event comes.
+static ROWS: [Row; 8] = [
+    (
+        b"{\"a\":1}",
+        1,
+        DeserializeErrorKind::TypeMismatch {
+            expected: "value",
+            got: "key",
+        },
+        Span { offset: 1, len: 3 },
+    ),
+    (
+        b"{\"a\":1,\"b\":2}",
+        3,
+        DeserializeErrorKind::TypeMismatch {
+            expected: "value",
+            got: "key",
+        },
+        Span { offset: 7, len: 3 },
+    ),
+    (
+        b"{}",
+        1,
+        DeserializeErrorKind::TypeMismatch {
+            expected: "value",
+            got: "end",
+        },
+        Span { offset: 1, len: 1 },
+    ),
+    (
+        b"[]",
+        1,
+        DeserializeErrorKind::TypeMismatch {
+            expected: "value",
+            got: "end",
+        },
+        Span { offset: 1, len: 1 },
+    ),
+    (
+        b"[1]",
+        2,
+        DeserializeErrorKind::TypeMismatch {
+            expected: "value",
+            got: "end",
+        },
+        Span { offset: 2, len: 1 },
+    ),
+    (
+        b"{\"a\":1}",
+        3,
+        DeserializeErrorKind::TypeMismatch {
+            expected: "value",
+            got: "end",
+        },
+        Span { offset: 6, len: 1 },
+    ),
+    (
+        b"1",
+        1,
+        DeserializeErrorKind::UnexpectedEof { expected: "value" },
+        Span { offset: 1, len: 0 },
+    ),
+    (
+        b"[1,",
+        2,
+        DeserializeErrorKind::UnexpectedEof {
+            expected: "value or ']'",
+        },
+        Span { offset: 3, len: 0 },
+    ),
 ];
 
 #[test]
-fn no_value_begins(rt: HostRuntime) {
-    let alloc = rt.alloc();
-    for &(input, events, got, (offset, len)) in &MISPLACED {
-        let kind = DeserializeErrorKind::TypeMismatch {
-            expected: "value",
-            got,
+fn no_value_begins_or_no_event_comes(rt: HostRuntime) {
+    for &(input, events, kind, span) in &ROWS {
+        let refusal = DeserializeError {
+            kind,
+            span: Some(span),
         };
-        let span = Some(Span::new(offset, len));
-        assert!(rt; refused_after(alloc, input, events) == Some(DeserializeError { kind, span }));
+        assert!(rt; refused_after(rt.alloc(), input, events) == Some(refusal));
     }
-}
-
-#[test]
-fn no_event_comes(rt: HostRuntime) {
-    let alloc = rt.alloc();
-    let kind = DeserializeErrorKind::UnexpectedEof { expected: "value" };
-    let span = Some(Span::new(1, 0));
-    assert!(rt; refused_after(alloc, b"1", 1) == Some(DeserializeError { kind, span }));
-    let kind = DeserializeErrorKind::UnexpectedEof {
-        expected: "value or ']'",
-    };
-    let span = Some(Span::new(3, 0));
-    assert!(rt; refused_after(alloc, b"[1,", 2) == Some(DeserializeError { kind, span }));
 }

@@ -3,6 +3,7 @@
 //! one request is refused in a run, memory runs out in one of the two at most, and the other gives the whole answer.
 
 use crate::samples::{each_kind, object};
+use crate::twice::but_once;
 use facet_format::{Decimal, DeserializeError, DeserializeErrorKind};
 use facet_json_core::RawJson;
 use facet_json_parser::JsonParser;
@@ -11,11 +12,6 @@ use facet_json_tree::{
     tree_from_slice_within, tree_from_slice_within_jsonc, tree_from_slice_within_strict,
 };
 use std::alloc::{AllocError, Global};
-
-/// Whether a call that was made twice gave its whole answer, but for one time at most in which memory ran out.
-pub fn but_once(first: Option<bool>, again: Option<bool>) -> bool {
-    first.unwrap_or(true) && again.unwrap_or(true) && (first.is_some() || again.is_some())
-}
 
 /// Whether the copy is the same, or memory runs out.
 fn is_copied(alloc: Global, tree: &Tree) -> Option<bool> {
@@ -61,12 +57,6 @@ fn items_are_copied(alloc: Global, items: &[Tree], count: usize) -> Option<bool>
     Some(items.len() == count)
 }
 
-#[test]
-fn a_growth_is_refused_in_a_copy(rt: HostRuntime) {
-    let alloc = rt.alloc();
-    assert!(rt; but_once(are_copied(alloc, 11), are_copied(alloc, 11)));
-}
-
 /// Whether a raw text is kept in memory of its own; or memory runs out, and it comes back as it was.
 fn is_owned(alloc: Global, text: &str) -> Option<bool> {
     match RawJson::new(text).into_owned(alloc) {
@@ -90,17 +80,6 @@ fn keeps(alloc: Global, owned: RawJson<'static>, text: &str) -> Option<bool> {
 }
 
 static RAW_TEXTS: [&str; 3] = ["[1, {}]", "x", ""];
-
-#[test]
-fn a_growth_is_refused_in_a_raw_text(rt: HostRuntime) {
-    let alloc = rt.alloc();
-    for &text in &RAW_TEXTS {
-        assert!(rt;
-            but_once(is_owned(alloc, text), is_owned(alloc, text)),
-            "{text}"
-        );
-    }
-}
 
 /// The numbers of `[[1,2,3,4,5],[6,7],[],[8]]`.
 static LISTS: [&[u64]; 4] = [&[1, 2, 3, 4, 5], &[6, 7], &[], &[8]];
@@ -253,13 +232,29 @@ fn reads(alloc: Global, entry: Entry, row: &Row) -> Option<bool> {
     is_read(answer, &tree, *wants)
 }
 
+/// Whether the entry does, but for one time at most in which memory ran out.
+fn is_read_but_once(alloc: Global, entry: Entry, row: &Row) -> bool {
+    but_once(reads(alloc, entry, row), reads(alloc, entry, row))
+}
+
 #[test]
 fn a_growth_is_refused_in_a_tree(rt: HostRuntime) {
     let alloc = rt.alloc();
     for row in &ROWS {
         for entry in &ENTRIES {
-            let first = reads(alloc, *entry, row);
-            assert!(rt; but_once(first, reads(alloc, *entry, row)), "{}", row.0);
+            assert!(rt; is_read_but_once(alloc, *entry, row), "{}", row.0);
         }
+    }
+}
+
+#[test]
+fn a_growth_is_refused_in_a_copy(rt: HostRuntime) {
+    let alloc = rt.alloc();
+    assert!(rt; but_once(are_copied(alloc, 11), are_copied(alloc, 11)));
+    for &text in &RAW_TEXTS {
+        assert!(rt;
+            but_once(is_owned(alloc, text), is_owned(alloc, text)),
+            "{text}"
+        );
     }
 }

@@ -1,7 +1,7 @@
 //! What the public types derive, copies, equality and how they are shown, and what conversions keep.
 
 use facet_format::numeral::NumberHint;
-use facet_format::{DeserializeError, DeserializeErrorKind, ParseError, Span};
+use facet_format::{DeserializeError, DeserializeErrorKind, ParseError, SavePoint, Span};
 use std::alloc::Global;
 use std::fmt::Debug;
 use std::process::Abort;
@@ -42,6 +42,8 @@ static SPANS: [Row<Span>; 1] = [(
     Span { offset: 3, len: 5 },
     "Span { offset: 3, len: 4 }",
 )];
+
+static SAVE_POINTS: [Row<SavePoint>; 1] = [(SavePoint(7), SavePoint(8), "SavePoint(7)")];
 
 static HINTS: [Row<NumberHint>; 3] = [
     (NumberHint::Unsigned, NumberHint::Signed, "Unsigned"),
@@ -153,22 +155,25 @@ fn expect_none(rt: &impl Abort, wrong: Option<&'static str>) {
 }
 
 #[test]
-fn small_types(rt: HostRuntime) {
-    expect_none(&rt, first_wrong(rt.alloc(), &SPANS));
-    expect_none(&rt, first_wrong(rt.alloc(), &HINTS));
+fn values_are_copied_compared_and_shown(rt: HostRuntime) {
+    let alloc = rt.alloc();
+    expect_none(&rt, first_wrong(alloc, &SPANS));
+    expect_none(&rt, first_wrong(alloc, &SAVE_POINTS));
+    expect_none(&rt, first_wrong(alloc, &HINTS));
+    expect_none(&rt, first_wrong(alloc, &KINDS));
+    expect_none(&rt, first_wrong(alloc, &REFUSALS));
+    expect_none(&rt, first_wrong(alloc, &PARSER_REFUSALS));
 }
 
-#[test]
-fn refusals(rt: HostRuntime) {
-    expect_none(&rt, first_wrong(rt.alloc(), &KINDS));
-    expect_none(&rt, first_wrong(rt.alloc(), &REFUSALS));
-    expect_none(&rt, first_wrong(rt.alloc(), &PARSER_REFUSALS));
+/// Whether a refusal of a parser is made and passed on whole, and out of memory has no place.
+fn are_converted() -> bool {
+    let here = ParseError::new(Span::new(2, 1), DeserializeErrorKind::SaveLimit);
+    here == PARSER_HERE
+        && DeserializeError::from(here) == PASSED
+        && DeserializeError::out_of_memory() == NOWHERE
 }
 
 #[test]
 fn constructors_and_conversions(rt: HostRuntime) {
-    let here = ParseError::new(Span::new(2, 1), DeserializeErrorKind::SaveLimit);
-    assert!(rt; here == PARSER_HERE);
-    assert!(rt; DeserializeError::from(here) == PASSED);
-    assert!(rt; DeserializeError::out_of_memory() == NOWHERE);
+    assert!(rt; are_converted());
 }

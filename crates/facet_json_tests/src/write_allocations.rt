@@ -3,20 +3,13 @@
 //! one request is refused in a run, memory runs out in one of the two at most, and the other gives the whole answer.
 
 use crate::trees::list_of_trees;
-use crate::writers::{FORMS, Form, is_after, sample, tabs_and_hex, text_by, write_by};
+use crate::twice::but_once;
+use crate::writers::{FORMS, Form, is_after, sample, string_by, text_by, vec_by, write_by};
 use crate::written::{Call, Layout, make, options};
-use facet_json::{
-    to_string, to_string_pretty, to_string_with_options, to_vec, to_vec_pretty, to_vec_with_options,
-};
 use facet_json_serializer::{JsonSerializeError, JsonSerializer};
 use facet_json_tree::{Tree, WriteError};
 use std::alloc::Global;
 use std::io::ErrorKind;
-
-/// Whether a call that was made twice gave its whole answer, but for one time at most in which memory ran out.
-fn but_once(first: Option<bool>, again: Option<bool>) -> bool {
-    first.unwrap_or(true) && again.unwrap_or(true) && (first.is_some() || again.is_some())
-}
 
 /// Calls, each with the number of its refusal or 0, and the text that they write.
 struct Row {
@@ -175,24 +168,6 @@ fn a_growth_is_refused_among_trees(rt: HostRuntime) {
     assert!(rt; but_once(first, is_text(list_of_trees(alloc), text)));
 }
 
-/// The text of the tree as bytes, by the function that gives what this one writes.
-fn vec_by(form: Form, alloc: Global, tree: &Tree) -> Result<Vec<u8>, JsonSerializeError> {
-    match form {
-        Form::Compact => to_vec(alloc, tree),
-        Form::Pretty => to_vec_pretty(alloc, tree),
-        Form::WithOptions => to_vec_with_options(alloc, tree, &tabs_and_hex()),
-    }
-}
-
-/// The same as a text.
-fn string_by(form: Form, alloc: Global, tree: &Tree) -> Result<String, JsonSerializeError> {
-    match form {
-        Form::Compact => to_string(alloc, tree),
-        Form::Pretty => to_string_pretty(alloc, tree),
-        Form::WithOptions => to_string_with_options(alloc, tree, &tabs_and_hex()),
-    }
-}
-
 /// Whether the sample is given as bytes.
 fn gives_vec(alloc: Global, form: Form) -> Option<bool> {
     match sample(alloc) {
@@ -251,28 +226,12 @@ fn fills_vector(alloc: Global, form: Form) -> Option<bool> {
     }
 }
 
-#[test]
-fn a_growth_is_refused_in_each_form(rt: HostRuntime) {
-    let alloc = rt.alloc();
-    for form in FORMS {
-        let text = text_by(form);
-        assert!(rt;
-            but_once(gives_vec(alloc, form), gives_vec(alloc, form)),
-            "{text}"
-        );
-        assert!(rt;
-            but_once(gives_string(alloc, form), gives_string(alloc, form)),
-            "{text}"
-        );
-        assert!(rt;
-            but_once(fills_room(alloc, form), fills_room(alloc, form)),
-            "{text}"
-        );
-        assert!(rt;
-            but_once(fills_vector(alloc, form), fills_vector(alloc, form)),
-            "{text}"
-        );
-    }
+/// Whether the sample is given in each way, but for one time at most in which memory ran out.
+fn is_given(alloc: Global, form: Form) -> bool {
+    but_once(gives_vec(alloc, form), gives_vec(alloc, form))
+        && but_once(gives_string(alloc, form), gives_string(alloc, form))
+        && but_once(fills_room(alloc, form), fills_room(alloc, form))
+        && but_once(fills_vector(alloc, form), fills_vector(alloc, form))
 }
 
 /// One byte, by a function whose error is a `WriteError`.
@@ -291,7 +250,10 @@ fn gives_byte(alloc: Global) -> Option<bool> {
 }
 
 #[test]
-fn a_growth_is_refused_beside_a_writer(rt: HostRuntime) {
+fn a_growth_is_refused_in_each_form(rt: HostRuntime) {
     let alloc = rt.alloc();
+    for form in FORMS {
+        assert!(rt; is_given(alloc, form), "{}", text_by(form));
+    }
     assert!(rt; but_once(gives_byte(alloc), gives_byte(alloc)));
 }

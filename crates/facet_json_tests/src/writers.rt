@@ -1,5 +1,7 @@
 //! Texts of trees to writers that take all, a few bytes at a time, none, or fail; and as bytes and as text.
 
+use crate::error_samples::is_displayed;
+use crate::written::is_text;
 use facet_json::{
     to_string, to_string_pretty, to_string_with_options, to_vec, to_vec_pretty,
     to_vec_with_options, to_writer_std, to_writer_std_pretty, to_writer_std_with_options,
@@ -151,30 +153,9 @@ pub fn is_after(bytes: &[u8], before: &[u8], text: &str) -> bool {
     }
 }
 
-#[test]
-fn a_writer_over_memory_grows_by_the_text(rt: HostRuntime) {
-    let alloc = rt.alloc();
-    let tree = sample(alloc).expect(&rt, "memory");
-    for form in FORMS {
-        assert!(rt; grows_by_the_text(alloc, form, &tree));
-    }
-}
-
 /// Whether the writer takes the whole text.
 fn takes_all(alloc: Global, form: Form, tree: &Tree, mut writer: Steps) -> bool {
     write_by(form, alloc, &mut writer, tree).is_ok() && writer.holds(text_by(form))
-}
-
-#[test]
-fn short_and_interrupted_writes_go_on(rt: HostRuntime) {
-    let alloc = rt.alloc();
-    let tree = sample(alloc).expect(&rt, "memory");
-    for form in FORMS {
-        let short = Steps::new(alloc, 1, usize::MAX, ErrorKind::Other);
-        assert!(rt; takes_all(alloc, form, &tree, short));
-        let interrupted = Steps::new(alloc, 3, 2, ErrorKind::Interrupted);
-        assert!(rt; takes_all(alloc, form, &tree, interrupted));
-    }
 }
 
 /// Whether a failure of each write in turn is told, with a prefix of the text taken, and the text is written where none fails.
@@ -194,15 +175,6 @@ fn tells_of_each_failed_write(alloc: Global, form: Form, tree: &Tree) -> bool {
     false
 }
 
-#[test]
-fn a_failed_write_is_told(rt: HostRuntime) {
-    let alloc = rt.alloc();
-    let tree = sample(alloc).expect(&rt, "memory");
-    for form in FORMS {
-        assert!(rt; tells_of_each_failed_write(alloc, form, &tree));
-    }
-}
-
 /// Whether a writer that takes nothing has failed.
 fn fails_where_it_takes_nothing(alloc: Global, form: Form, tree: &Tree) -> bool {
     let mut writer = Steps::new(alloc, 0, usize::MAX, ErrorKind::Other);
@@ -218,51 +190,59 @@ fn fails_where_room_ends(alloc: Global, form: Form, tree: &Tree) -> bool {
     has_failed(answer, ErrorKind::WriteZero) && text_by(form).as_bytes().starts_with(&room)
 }
 
+/// The text of the tree as bytes, by the function that gives what this one writes.
+pub fn vec_by(form: Form, alloc: Global, tree: &Tree) -> Result<Vec<u8>, JsonSerializeError> {
+    match form {
+        Form::Compact => to_vec(alloc, tree),
+        Form::Pretty => to_vec_pretty(alloc, tree),
+        Form::WithOptions => to_vec_with_options(alloc, tree, &tabs_and_hex()),
+    }
+}
+
+/// The same as a text.
+pub fn string_by(form: Form, alloc: Global, tree: &Tree) -> Result<String, JsonSerializeError> {
+    match form {
+        Form::Compact => to_string(alloc, tree),
+        Form::Pretty => to_string_pretty(alloc, tree),
+        Form::WithOptions => to_string_with_options(alloc, tree, &tabs_and_hex()),
+    }
+}
+
+/// Whether the tree is given as bytes and as a text.
+fn is_given(alloc: Global, form: Form, tree: &Tree) -> bool {
+    is_text(vec_by(form, alloc, tree), text_by(form))
+        && matches!(string_by(form, alloc, tree), Ok(written) if written.as_str() == text_by(form))
+}
+
+/// Whether short and interrupted writes go on.
+fn goes_on(alloc: Global, form: Form, tree: &Tree) -> bool {
+    let short = Steps::new(alloc, 1, usize::MAX, ErrorKind::Other);
+    let interrupted = Steps::new(alloc, 3, 2, ErrorKind::Interrupted);
+    takes_all(alloc, form, tree, short) && takes_all(alloc, form, tree, interrupted)
+}
+
+/// Whether a function writes to each writer as it should.
+fn writes(alloc: Global, form: Form, tree: &Tree) -> bool {
+    is_given(alloc, form, tree)
+        && grows_by_the_text(alloc, form, tree)
+        && goes_on(alloc, form, tree)
+        && tells_of_each_failed_write(alloc, form, tree)
+        && fails_where_it_takes_nothing(alloc, form, tree)
+        && fails_where_room_ends(alloc, form, tree)
+}
+
 #[test]
-fn a_full_writer_has_failed(rt: HostRuntime) {
+fn each_function_writes_to_each_writer(rt: HostRuntime) {
     let alloc = rt.alloc();
     let tree = sample(alloc).expect(&rt, "memory");
     for form in FORMS {
-        assert!(rt; fails_where_it_takes_nothing(alloc, form, &tree));
-        assert!(rt; fails_where_room_ends(alloc, form, &tree));
+        assert!(rt; writes(alloc, form, &tree));
     }
-}
-
-/// Whether this was answered.
-fn is_vec(answer: Result<Vec<u8>, JsonSerializeError>, text: &str) -> bool {
-    match answer {
-        Ok(written) => written.as_slice() == text.as_bytes(),
-        Err(_) => false,
-    }
-}
-
-/// Whether this was answered.
-fn is_string(answer: Result<String, JsonSerializeError>, text: &str) -> bool {
-    match answer {
-        Ok(written) => written.as_str() == text,
-        Err(_) => false,
-    }
-}
-
-#[test]
-fn a_tree_is_bytes_and_text(rt: HostRuntime) {
-    let alloc = rt.alloc();
-    let tree = sample(alloc).expect(&rt, "memory");
-    let options = tabs_and_hex();
-    assert!(rt; is_vec(to_vec(alloc, &tree), COMPACT));
-    assert!(rt; is_vec(to_vec_pretty(alloc, &tree), PRETTY));
-    assert!(rt; is_vec(to_vec_with_options(alloc, &tree, &options), TABS_AND_HEX));
-    assert!(rt; is_string(to_string(alloc, &tree), COMPACT));
-    assert!(rt; is_string(to_string_pretty(alloc, &tree), PRETTY));
-    assert!(rt; is_string(to_string_with_options(alloc, &tree, &options), TABS_AND_HEX));
 }
 
 /// Whether the refusal has this number and is displayed so.
 fn is_told(alloc: Global, refusal: &WriteError, code: u8, message: &str) -> bool {
-    match format!(in alloc; "{refusal}") {
-        Ok(shown) => refusal.code() == code && shown.as_str() == message,
-        Err(_) => false,
-    }
+    refusal.code() == code && is_displayed(alloc, refusal, message)
 }
 
 #[test]

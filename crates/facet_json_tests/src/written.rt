@@ -2,7 +2,7 @@
 
 use facet_format::{Decimal, FormatSerializer, ScalarValue};
 use facet_json_serializer::{
-    HexBytesOptions, JsonSerializeError, JsonSerializer, SerializeOptions,
+    BytesFormat, HexBytesOptions, JsonSerializeError, JsonSerializer, SerializeOptions,
 };
 use std::alloc::Global;
 use std::borrow::CowStr;
@@ -23,6 +23,8 @@ pub enum Layout {
     Hex,
     /// The same, but above so many only so many of the first and of the last.
     ShortHex(usize, usize, usize),
+    /// Bytes in this format.
+    Format(BytesFormat),
 }
 
 /// The options of a layout.
@@ -37,6 +39,7 @@ pub fn options(layout: Layout) -> SerializeOptions<'static> {
         Layout::ShortHex(above, head, tail) => options.bytes_as_hex_with_options(
             HexBytesOptions::new().truncate(above).head_tail(head, tail),
         ),
+        Layout::Format(format) => options.bytes_format(format),
     }
 }
 
@@ -49,7 +52,7 @@ pub type Row = (
 );
 
 /// A call.
-#[derive(Debug, Clone, Copy)]
+#[derive(Clone, Copy)]
 pub enum Call<'a> {
     /// `begin_struct`
     BeginStruct,
@@ -65,12 +68,51 @@ pub enum Call<'a> {
     Number(u64),
     /// `scalar` of a text
     Text(&'a str),
+    /// `scalar` of another value
+    Scalar(Scalar<'a>),
     /// `raw_scalar`
     Raw(&'a str),
     /// `serialize_byte_sequence`
     Bytes(&'a [u8]),
     /// `serialize_byte_array`
     Array(&'a [u8]),
+}
+
+/// A value, by what it holds.
+#[derive(Clone, Copy)]
+pub enum Scalar<'a> {
+    Null,
+    Unit,
+    Bool(bool),
+    Char(char),
+    I64(i64),
+    U64(u64),
+    I128(i128),
+    U128(u128),
+    Text(&'a str),
+    Bytes(&'a [u8]),
+    /// A number with a fraction or an exponent, by its text
+    Decimal(&'a str),
+}
+
+/// The value.
+pub fn value_of(scalar: Scalar<'_>) -> ScalarValue<'_> {
+    match scalar {
+        Scalar::Null => ScalarValue::Null,
+        Scalar::Unit => ScalarValue::Unit,
+        Scalar::Bool(truth) => ScalarValue::Bool(truth),
+        Scalar::Char(character) => ScalarValue::Char(character),
+        Scalar::I64(number) => ScalarValue::I64(number),
+        Scalar::U64(number) => ScalarValue::U64(number),
+        Scalar::I128(number) => ScalarValue::I128(number),
+        Scalar::U128(number) => ScalarValue::U128(number),
+        Scalar::Text(text) => ScalarValue::Str(CowStr::Borrowed(text)),
+        Scalar::Bytes(bytes) => ScalarValue::Bytes(bytes),
+        Scalar::Decimal(text) => match Decimal::new(text) {
+            Some(decimal) => ScalarValue::Decimal(decimal),
+            None => ScalarValue::Null,
+        },
+    }
 }
 
 /// Makes a call.
@@ -81,8 +123,9 @@ pub fn make(serializer: &mut JsonSerializer<'_>, call: Call<'_>) -> Result<(), J
         Call::EndStruct => serializer.end_struct(),
         Call::BeginSeq => serializer.begin_seq(),
         Call::EndSeq => serializer.end_seq(),
-        Call::Number(n) => serializer.scalar(ScalarValue::U64(n)),
-        Call::Text(text) => serializer.scalar(ScalarValue::Str(CowStr::Borrowed(text))),
+        Call::Number(number) => serializer.scalar(value_of(Scalar::U64(number))),
+        Call::Text(text) => serializer.scalar(value_of(Scalar::Text(text))),
+        Call::Scalar(scalar) => serializer.scalar(value_of(scalar)),
         Call::Raw(json) => serializer.raw_scalar(json),
         Call::Bytes(bytes) => match serializer.serialize_byte_sequence(bytes) {
             Ok(_) => Ok(()),
@@ -117,7 +160,7 @@ fn are_refused(serializer: &mut JsonSerializer<'_>, calls: &[Call<'_>], refusals
 }
 
 /// Whether this was written.
-fn is_text(answer: Result<Vec<u8>, JsonSerializeError>, text: &str) -> bool {
+pub fn is_text(answer: Result<Vec<u8>, JsonSerializeError>, text: &str) -> bool {
     match answer {
         Ok(written) => written.as_slice() == text.as_bytes(),
         Err(_) => false,
@@ -128,45 +171,5 @@ fn is_text(answer: Result<Vec<u8>, JsonSerializeError>, text: &str) -> bool {
 pub fn expect_written(rt: &impl Abort, alloc: Global, rows: &[Row]) {
     for row in rows {
         assert!(rt; writes(alloc, row), "{}", row.3);
-    }
-}
-
-/// Whether a value is written so.
-pub fn writes_scalar(
-    alloc: Global,
-    options: SerializeOptions<'_>,
-    value: ScalarValue<'_>,
-    text: &str,
-) -> bool {
-    is_text(scalar_text(alloc, options, value), text)
-}
-
-/// The text of a value.
-fn scalar_text(
-    alloc: Global,
-    options: SerializeOptions<'_>,
-    value: ScalarValue<'_>,
-) -> Result<Vec<u8>, JsonSerializeError> {
-    let mut serializer = JsonSerializer::with_options(alloc, options);
-    serializer.scalar(value)?;
-    serializer.finish()
-}
-
-/// Whether a text is written so.
-pub fn writes_text(alloc: Global, text: &str, written: &str) -> bool {
-    let value = ScalarValue::Str(CowStr::Borrowed(text));
-    writes_scalar(alloc, SerializeOptions::new(), value, written)
-}
-
-/// Whether a number with a fraction or an exponent is written as it stands.
-pub fn writes_decimal(alloc: Global, text: &str) -> bool {
-    match Decimal::new(text) {
-        Some(decimal) => writes_scalar(
-            alloc,
-            SerializeOptions::new(),
-            ScalarValue::Decimal(decimal),
-            text,
-        ),
-        None => false,
     }
 }
