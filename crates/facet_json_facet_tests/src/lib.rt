@@ -40,6 +40,7 @@ mod lengths;
 mod lent;
 #[cfg(test)]
 mod lines;
+#[cfg(test)]
 mod made;
 #[cfg(test)]
 mod numbers;

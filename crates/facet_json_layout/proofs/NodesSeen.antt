@@ -85,8 +85,9 @@ other-list rust.End later e = refl
 other-pairs : (n : RustNode) (later : List (Node × Tree)) → is_object (node_view n) ≡ false → as_pairs (value_beginning (node_view n) later) ≡ None
 other-pairs (rust.Leaf s) later e = scalar-pairs (scalar_value_of s)
 other-pairs (rust.Key name) later e = refl
+other-pairs (rust.Object k) later e =
+    cc
 other-pairs (rust.List k) later e = refl
-other-pairs (rust.Object k) later e = cc
 other-pairs rust.End later e = refl
 
 a-list : (n : Node) (later : List (Node × Tree)) → is_list n ≡ true → value_beginning n later ≡ trees.list (items 0 later)
@@ -99,7 +100,8 @@ a-list closing later e = cc
 an-object : (n : Node) (later : List (Node × Tree)) → is_object n ≡ true → value_beginning n later ≡ trees.pairs (members 0 later)
 an-object (object k) later e = refl
 an-object (leaf t) later e = cc
-an-object (key name) later e = cc
+an-object (key name) later e =
+    cc
 an-object (list k) later e = cc
 an-object closing later e = cc
 

@@ -161,13 +161,13 @@ impl<'i> Document<'i> {
         input: &'i [u8],
         depth: usize,
     ) -> Result<Document<'i>, DeserializeError<'t>>
+        ensures refused { IfErr result (λ e. LacksMemory (refusal_of e) ⊎ RefusesWithin input.now jsonc depth (refusal_of e)) }
+        ensures within { IfErr result (λ e. RefusalWithin input.now (refusal_of e)) }
+        ensures deeper { (root : Root) (value : Tree) (s : Span) → IsDocument input.now jsonc root value → first_beyond depth root ≡ Some s
+            → MatchResult result (λ _. ⊥) (λ e. LacksMemory (refusal_of e) ⊎ (refusal_of e ≡ too_deep_at s)) }
         ensures document { IfOk result (λ d. (root : Root) × IsDocument input.now jsonc root (document_view d) × (depth_of root ≤ depth)) }
         ensures only { (root : Root) (value : Tree) → IsDocument input.now jsonc root value → depth_of root ≤ depth
             → MatchResult result (λ d. document_view d ≡ value) (λ e. LacksMemory (refusal_of e)) }
-        ensures deeper { (root : Root) (value : Tree) (s : Span) → IsDocument input.now jsonc root value → first_beyond depth root ≡ Some s
-            → MatchResult result (λ _. ⊥) (λ e. LacksMemory (refusal_of e) ⊎ (refusal_of e ≡ too_deep_at s)) }
-        ensures refused { IfErr result (λ e. LacksMemory (refusal_of e) ⊎ RefusesWithin input.now jsonc depth (refusal_of e)) }
-        ensures within { IfErr result (λ e. RefusalWithin input.now (refusal_of e)) }
     {
         Ok(Document {
             nodes: lenient_nodes(alloc, input, Mode::Jsonc, Some(depth))?,

@@ -8,14 +8,14 @@ use std::alloc::Global;
 /// A value that holds no text and no others.
 #[derive(Clone, Copy)]
 enum Small {
+    I64(i64),
+    I128(i128),
+    U64(u64),
+    U128(u128),
     Null,
-    Unit,
     Bool(bool),
     Char(char),
-    I64(i64),
-    U64(u64),
-    I128(i128),
-    U128(u128),
+    Unit,
 }
 
 /// The value.

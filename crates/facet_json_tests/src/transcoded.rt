@@ -45,87 +45,55 @@ fn is_empty(written: Result<Vec<u8>, JsonSerializeError>) -> bool {
     }
 }
 
-/// An input, how many of its events are read before, and how what comes is refused.
-type Row = (&'static [u8], usize, DeserializeErrorKind<'static>, Span);
+/// A key where a value is to begin.
+const KEY: DeserializeErrorKind<'static> = DeserializeErrorKind::TypeMismatch {
+    expected: "value",
+    got: "key",
+};
+
+/// A container's end, likewise.
+const END: DeserializeErrorKind<'static> = DeserializeErrorKind::TypeMismatch {
+    expected: "value",
+    got: "end",
+};
+
+/// No event comes.
+const NO_VALUE: DeserializeErrorKind<'static> = DeserializeErrorKind::UnexpectedEof {
+    expected: "value",
+};
+
+/// No event comes within a list.
+const NO_ITEM: DeserializeErrorKind<'static> = DeserializeErrorKind::UnexpectedEof {
+    expected: "value or ']'",
+};
+
+/// An input, how many of its events are read before, and how what comes is refused: the kind, and the span's offset and length.
+type Row = (
+    &'static [u8],
+    usize,
+    DeserializeErrorKind<'static>,
+    usize,
+    usize,
+);
 
 /// Where no value begins, and where no event comes.
 static ROWS: [Row; 8] = [
-    (
-        b"{\"a\":1}",
-        1,
-        DeserializeErrorKind::TypeMismatch {
-            expected: "value",
-            got: "key",
-        },
-        Span { offset: 1, len: 3 },
-    ),
-    (
-        b"{\"a\":1,\"b\":2}",
-        3,
-        DeserializeErrorKind::TypeMismatch {
-            expected: "value",
-            got: "key",
-        },
-        Span { offset: 7, len: 3 },
-    ),
-    (
-        b"{}",
-        1,
-        DeserializeErrorKind::TypeMismatch {
-            expected: "value",
-            got: "end",
-        },
-        Span { offset: 1, len: 1 },
-    ),
-    (
-        b"[]",
-        1,
-        DeserializeErrorKind::TypeMismatch {
-            expected: "value",
-            got: "end",
-        },
-        Span { offset: 1, len: 1 },
-    ),
-    (
-        b"[1]",
-        2,
-        DeserializeErrorKind::TypeMismatch {
-            expected: "value",
-            got: "end",
-        },
-        Span { offset: 2, len: 1 },
-    ),
-    (
-        b"{\"a\":1}",
-        3,
-        DeserializeErrorKind::TypeMismatch {
-            expected: "value",
-            got: "end",
-        },
-        Span { offset: 6, len: 1 },
-    ),
-    (
-        b"1",
-        1,
-        DeserializeErrorKind::UnexpectedEof { expected: "value" },
-        Span { offset: 1, len: 0 },
-    ),
-    (
-        b"[1,",
-        2,
-        DeserializeErrorKind::UnexpectedEof {
-            expected: "value or ']'",
-        },
-        Span { offset: 3, len: 0 },
-    ),
+    (b"{\"a\":1}", 1, KEY, 1, 3),
+    (b"{\"a\":1,\"b\":2}", 3, KEY, 7, 3),
+    (b"{}", 1, END, 1, 1),
+    (b"[]", 1, END, 1, 1),
+    (b"[1]", 2, END, 2, 1),
+    (b"{\"a\":1}", 3, END, 6, 1),
+    (b"1", 1, NO_VALUE, 1, 0),
+    (b"[1,", 2, NO_ITEM, 3, 0),
 ];
 
 #[test]
 fn no_value_begins_or_no_event_comes(rt: HostRuntime) {
-    for &(input, events, kind, span) in &ROWS {
+    for &(input, events, kind, offset, len) in &ROWS {
         let refusal = DeserializeError {
             kind,
-            span: Some(span),
+            span: Some(Span { offset, len }),
         };
         assert!(rt; refused_after(rt.alloc(), input, events) == Some(refusal));
     }

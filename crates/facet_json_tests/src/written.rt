@@ -81,14 +81,14 @@ pub enum Call<'a> {
 /// A value, by what it holds.
 #[derive(Clone, Copy)]
 pub enum Scalar<'a> {
-    Null,
     Unit,
-    Bool(bool),
+    Null,
     Char(char),
-    I64(i64),
+    Bool(bool),
     U64(u64),
-    I128(i128),
+    I64(i64),
     U128(u128),
+    I128(i128),
     Text(&'a str),
     Bytes(&'a [u8]),
     /// A number with a fraction or an exponent, by its text

@@ -23,12 +23,12 @@ invariant-copy_items-loop-next l = record {
 abbrev pub decreases-copy_items-loop-next : goal.decreases-copy_items-loop-next
 decreases-copy_items-loop-next l = length l.fn.value.nodes.now - l.at
 
+abbrev pub decreases-copy_members-loop-key : goal.decreases-copy_members-loop-key
+decreases-copy_members-loop-key l = length l.fn.value.nodes.now - l.at
+
 abbrev pub invariant-copy_members-loop-key : goal.invariant-copy_members-loop-key
 invariant-copy_members-loop-key l = record {
   copied : MembersCopied l.fn.value l.copies.items l.at;
   ahead : l.fn.value.index < l.at;
   within : l.at ≤ length l.fn.value.nodes.now;
 }
-
-abbrev pub decreases-copy_members-loop-key : goal.decreases-copy_members-loop-key
-decreases-copy_members-loop-key l = length l.fn.value.nodes.now - l.at
