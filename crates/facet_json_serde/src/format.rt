@@ -93,7 +93,7 @@ impl<'de> Json<'de> {
     #[inline(never)]
     fn next_item_slowly(&mut self) -> Result<bool, ReadFault>
         ensures { IfOk result (λ b. MatchBool b (Stays self.old self.new)
-            (Gives self.old [] seq_ends self.new)) }
+            (StepGives self.old [] seq_ends self.new)) }
     {
         let item = self.take()?;
         if let ParseEventKind::SequenceEnd = item.0.kind {
