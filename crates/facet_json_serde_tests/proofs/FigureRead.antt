@@ -5,8 +5,8 @@ use Rattle.serde.specs.Steps.{format_of}
 use Rattle.serde.specs.declared.deserializer.Deserializer.{Deserializer}
 use Rattle.facet_json_serde.specs.declared.json.Json.{Json}
 use Rattle.facet_json_serde.specs.Ahead.{JsonStands, StepGives, Stays}
-use Rattle.facet_json_serde_tests.specs.declared.by_hand.Figure.{Figure}
-use Rattle.facet_json_serde_tests.specs.declared.by_hand.Figure.TheVariants.{Percent, Range}
+use Rattle.facet_json_serde_tests.specs.declared.figures.Figure.{Figure}
+use Rattle.facet_json_serde_tests.specs.declared.figures.Figure.TheVariants.{Percent, Range}
 use Rattle.facet_json_serde_tests.specs.ByHand.{GivesFigure, GivesPair, PassesFigure, PassesPair}
 
 -- each step goes on from where the one before left the parser

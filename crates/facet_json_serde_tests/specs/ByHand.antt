@@ -7,8 +7,8 @@ use Rattle.serde.specs.Event.{Event, unsigned, seq_begins, seq_ends}
 use Rattle.serde.specs.Steps.{Gives, Stays}
 use Rattle.serde.specs.declared.deserializer.Deserializer.{Deserializer}
 use Rattle.facet_json_serde.specs.Ahead.{IsListBegin, IsUnsigned}
-use Rattle.facet_json_serde_tests.specs.declared.by_hand.Figure.{Figure}
-use Rattle.facet_json_serde_tests.specs.declared.by_hand.Figure.TheVariants.{Percent, Range}
+use Rattle.facet_json_serde_tests.specs.declared.figures.Figure.{Figure}
+use Rattle.facet_json_serde_tests.specs.declared.figures.Figure.TheVariants.{Percent, Range}
 
 -- A whole number's event came next, in a parser of JSON.
 abbrev pub PassesNumber : Now → ℕ → Type 0

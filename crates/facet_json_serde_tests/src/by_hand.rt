@@ -5,13 +5,10 @@ ghost use Rattle.serde.specs.Event.{unsigned};
 ghost use Rattle.serde.specs.Steps.{Gives};
 ghost use Rattle.facet_json_serde_tests.specs.ByHand.{GivesFigure, GivesPair, PassesFigure};
 
+use crate::figures::{Figure, Percent, Range};
 use facet_json_serde::{Json, JsonParser, ReadFault};
 use serde::{Deserialize, Deserializer, Format, Kind};
 use std::alloc::Global;
-
-/// A part of a hundred.
-#[derive(Clone, Copy)]
-pub struct Percent(pub u64);
 
 impl<'de> Deserialize<'de> for Percent {
     fn deserialize<F: Format>(
@@ -28,15 +25,6 @@ impl<'de> Deserialize<'de> for Percent {
             Err(from.custom("above 100"))
         }
     }
-}
-
-/// A list of two whole numbers, the lower one first.
-#[derive(Clone, Copy)]
-pub struct Range {
-    /// The first of the two.
-    pub low: u64,
-    /// The second.
-    pub high: u64,
 }
 
 impl<'de> Deserialize<'de> for Range {
@@ -59,15 +47,6 @@ impl<'de> Deserialize<'de> for Range {
             Err(from.invalid())
         }
     }
-}
-
-/// Such a part or such a range, as what comes is no list or is one.
-#[derive(Clone, Copy)]
-pub enum Figure {
-    /// A part of a hundred.
-    Percent(Percent),
-    /// A list of two numbers.
-    Range(Range),
 }
 
 impl<'de> Deserialize<'de> for Figure {

@@ -1,6 +1,7 @@
 //! A parser and a writer that the caller holds.
 
-use crate::by_hand::{Figure, read_figure};
+use crate::by_hand::read_figure;
+use crate::figures::Figure;
 use facet_json_serde::{Error, Json, JsonParser, JsonWriter, ReadFault, SerializeOptions};
 use serde::Serialize;
 use std::alloc::Global;

@@ -15,6 +15,7 @@ mod entries;
 mod enums;
 #[cfg(test)]
 mod exchanged;
+mod figures;
 #[cfg(test)]
 mod held;
 #[cfg(test)]
