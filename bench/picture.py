@@ -22,7 +22,7 @@ WORKS = {
     "fmt": ("fmt", "a whole process"),
 }
 # the works of the table
-LINES = ("typed", "typed-lent", "typed-text", "log", "skip", "events", "trusted", "document", "check", "tree", "text", "fmt")
+LINES = ("typed", "typed-lent", "typed-text", "log", "skip", "events", "document", "check", "tree", "text", "fmt")
 SIDES = {"ours": "facet_json", "serde_json": "serde_json", "simdjson": "simdjson", "rapidjson": "RapidJSON"}
 # measured for one work alone, so it is no part of a mean
 LEFT_OUT = "one-account.json"
