@@ -1,7 +1,8 @@
 //! A struct of ten fields.
 
-use crate::typed::{comes_back, out_of_range, reads, refuses};
-use facet_format::{DeserializeErrorKind, Span};
+use crate::typed::{comes_back, out_of_range, refuses};
+use facet_format::{DeserializeError, DeserializeErrorKind, Span};
+use facet_json::{from_slice, from_slice_borrowed};
 use facet_json_examples::accounts::Account;
 use std::alloc::{AllocError, Global};
 
@@ -21,10 +22,35 @@ fn ann(alloc: Global, score: i32, age: u8) -> Result<Account, AllocError> {
     })
 }
 
-/// Whether the input is read as that account.
+/// Whether each field of the one is that of the other.
+fn is_same(one: &Account, other: &Account) -> bool {
+    let is_one_person = one.id == other.id && one.name == other.name && one.email == other.email;
+    let are_numbers = one.age == other.age
+        && one.score == other.score
+        && one.visits == other.visits;
+    let are_others = one.active == other.active && one.city == other.city;
+    is_one_person
+        && are_numbers
+        && are_others
+        && one.tags == other.tags
+        && one.parent == other.parent
+}
+
+/// Whether that account was read.
+fn is_wanted(answer: Result<Account, DeserializeError<'_>>, wanted: &Account) -> bool {
+    match answer {
+        Ok(account) => is_same(&account, wanted),
+        Err(_) => false,
+    }
+}
+
+/// Whether the input is read as that account, borrowed or not.
 fn is_account(alloc: Global, input: &str, score: i32, age: u8) -> bool {
     match ann(alloc, score, age) {
-        Ok(wanted) => reads(alloc, input, &wanted),
+        Ok(wanted) => {
+            is_wanted(from_slice(alloc, input.as_bytes()), &wanted)
+                && is_wanted(from_slice_borrowed(alloc, input.as_bytes()), &wanted)
+        }
         Err(_) => false,
     }
 }
