@@ -107,8 +107,9 @@ def group(work, mean, most, y):
 def picture(speeds):
     """The lines of the whole picture."""
     drawn = {work: means(speeds[work]) for work in WORKS if work in speeds}
-    step = 100
-    most = math.ceil(max(max(mean.values()) for mean in drawn.values()) / step) * step
+    fastest = max(max(mean.values()) for mean in drawn.values())
+    step = next(step for step in (100, 200, 500, 1000) if fastest <= 12 * step or step == 1000)
+    most = math.ceil(fastest / step) * step
     bottom = TOP + sum(BAR * len(mean) + GAP for mean in drawn.values()) - GAP + 6
     height = bottom + FOOT
     counts = sorted({len(shared_inputs(speeds[work])) for work in drawn})
