@@ -1,6 +1,7 @@
 //! Answers rows: each is a command line as it is typed at a shell, and what it prints stands below it. So a further row needs no proof.
 #![tactic(auto)]
 
+mod blocks;
 mod checked;
 mod compared;
 mod counted;

@@ -1,5 +1,6 @@
 //! Rows, and the commands in them.
 
+use crate::blocks::answer_blocks;
 use crate::checked::answer_check;
 use crate::compared::{Mode, Way, compare};
 use crate::counted::answer_count;
@@ -134,6 +135,7 @@ fn answer_text(
         "scanner" => answer_scanner(words, text, told),
         "decode_repeated" => answer_repeated(alloc, words, text, told),
         "repeat" => answer_long(alloc, words, text, told),
+        "blocks" => answer_blocks(alloc, words, text, told),
         "equal" => answer_equal(alloc, text, told),
         "write" => answer_write(alloc, words, text, told),
         _ => told.push_str("NO COMMAND\n"),

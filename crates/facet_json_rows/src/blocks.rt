@@ -1,0 +1,74 @@
+//! The skip of a value whose bytes stand at each place of the windows and blocks that it is passed by.
+
+use crate::compared::{Mode, parser_of};
+use crate::row::modes;
+use facet_format::FormatParser;
+use std::alloc::{AllocError, Global};
+
+/// How often a part is repeated at most: over two blocks of sixty-four, and a little more.
+const MOST: usize = 130;
+
+/// More white space than a block is long.
+const BLANK: &str = "                                                                      ";
+
+/// Writes where a skip of the root ends, counted from the end of the repeated part, for each number of times from which on it ends
+/// elsewhere: of the three parts that `|` parts, the second is repeated 0 to 130 times.
+pub fn answer_blocks(
+    alloc: Global,
+    words: &str,
+    text: &str,
+    told: &mut String,
+) -> Result<(), AllocError> {
+    let (before, rest) = text.split_once('|').unwrap_or((text, ""));
+    let (part, after) = rest.split_once('|').unwrap_or((rest, ""));
+    for mode in modes(words) {
+        let mut last = String::new(alloc);
+        for count in 0..=MOST {
+            let repeated = part.repeat(alloc, count)?;
+            let end = end(alloc, *mode, before, repeated.as_str(), after)?;
+            if end != last {
+                writeln!(told, "{count}: {end}")?;
+            }
+            last = end;
+        }
+    }
+    Ok(())
+}
+
+/// Where a skip of these parts ends, counted from the end of the repeated one; the same where white space follows.
+fn end(
+    alloc: Global,
+    mode: Mode,
+    before: &str,
+    repeated: &str,
+    after: &str,
+) -> Result<String, AllocError> {
+    let mut input = before.to_string(alloc)?;
+    input.push_str(repeated)?;
+    let start = repeated.len();
+    input.push_str(after)?;
+    let alone = skip_end(alloc, mode, input.as_bytes(), start)?;
+    input.push_str(BLANK)?;
+    if skip_end(alloc, mode, input.as_bytes(), start)? == alone {
+        Ok(alone)
+    } else {
+        "DIFFERS".to_string(alloc)
+    }
+}
+
+/// Where a skip of the root ends, or its refusal, so many bytes less.
+fn skip_end(alloc: Global, mode: Mode, input: &[u8], less: usize) -> Result<String, AllocError> {
+    let mut parser = parser_of(alloc, mode, false, input);
+    match parser.skip_value() {
+        Ok(()) => match parser.current_span() {
+            Some(span) => span.end().saturating_sub(less).to_string(alloc),
+            None => "no span".to_string(alloc),
+        },
+        Err(error) => format!(in alloc;
+            "refused {:?} {}+{}",
+            error.kind,
+            error.span.offset.saturating_sub(less),
+            error.span.len
+        ),
+    }
+}
