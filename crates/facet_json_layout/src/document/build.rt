@@ -55,6 +55,7 @@ pub(crate) fn build<'i, 't>(
 
 impl<'i> Built<'i> {
     /// Passes the next event, adds its node, and says whether there was one.
+    #[inline(always)]
     fn adds_event<'t>(&mut self, parser: &mut JsonParser<'i>) -> Result<bool, DeserializeError<'t>>
         ensures added { IfOk result (λ some. AddsNext some parser.old parser.new (built_view self.old) (built_view self.new)) }
         ensures level { result ≡ Ok true → SameBeyond (future_of parser.old) self.old.room (future_of parser.new) self.new.room }
@@ -75,6 +76,7 @@ impl<'i> Built<'i> {
     }
 
     /// Adds the node of an event.
+    #[inline(always)]
     fn add(&mut self, kind: ParseEventKind<'i>) -> Result<(), AllocError>
         ensures { OnOk result (built_view self.new ≡ added (event_kind_of kind.entry) (built_view self.old)) }
     {
@@ -89,6 +91,7 @@ impl<'i> Built<'i> {
     }
 
     /// Adds the node of a container that begins.
+    #[inline(always)]
     fn begin(&mut self, node: Node<'i>) -> Result<(), AllocError>
         ensures { OnOk result (built_view self.new ≡ begun (node_view node.entry) (built_view self.old)) }
     {
@@ -97,6 +100,7 @@ impl<'i> Built<'i> {
     }
 
     /// Adds the node of the innermost container's end.
+    #[inline(always)]
     fn end(&mut self, kind: ContainerKind) -> Result<(), AllocError>
         ensures { OnOk result (built_view self.new ≡ ended (container kind) (built_view self.old)) }
     {
@@ -105,6 +109,7 @@ impl<'i> Built<'i> {
     }
 
     /// Takes the innermost container off those that are not closed, and writes into its node how many belong to it.
+    #[inline(always)]
     fn close(&mut self, kind: ContainerKind)
         ensures { built_view self.new ≡ closed (container kind) (nodes_view self.old.nodes.items) (reverse self.old.unclosed.items) }
     {
@@ -118,6 +123,7 @@ impl<'i> Built<'i> {
     }
 
     /// Adds a node.
+    #[inline(always)]
     fn also(&mut self, node: Node<'i>) -> Result<(), AllocError>
         ensures { OnOk result (built_view self.new ≡ also (node_view node.entry) (built_view self.old)) }
     {
@@ -131,6 +137,7 @@ impl<'i> Built<'i> {
 /// # Errors
 ///
 /// A bracket where no more may be opened: `InvalidValue`, its span the bracket's.
+#[inline(always)]
 fn room_after<'t>(
     kind: &ParseEventKind<'_>,
     span: Span,
@@ -151,6 +158,7 @@ fn room_after<'t>(
 }
 
 /// How many more containers may be opened within one that opens here.
+#[inline(always)]
 fn room_within<'t>(span: Span, room: Option<usize>) -> Result<Option<usize>, DeserializeError<'t>>
     ensures left { IfOk result (λ left. (others : Option ℕ → Option SpecSpan) → beyond_bracket (span_of span) others room ≡ others left) }
     ensures refused { IfErr result (λ e. (room ≡ Some 0) × (refusal_of e ≡ too_deep_at (span_of span))) }
@@ -173,6 +181,7 @@ fn room_within<'t>(span: Span, room: Option<usize>) -> Result<Option<usize>, Des
 /// # Errors
 ///
 /// Out of memory, where no number tells: there is no memory for so many.
+#[inline(always)]
 fn room_behind<'t>(room: Option<usize>) -> Result<Option<usize>, DeserializeError<'t>>
     ensures { MatchResult result (λ left. left ≡ outer room) (λ e. refusal_of e ≡ no_memory) }
 {
@@ -186,6 +195,7 @@ fn room_behind<'t>(room: Option<usize>) -> Result<Option<usize>, DeserializeErro
 }
 
 /// Puts a node in the place of another.
+#[inline(always)]
 fn put<'i>(nodes: &mut Vec<Node<'i>>, at: usize, node: Node<'i>)
     requires { at < length nodes.old.items }
     ensures { nodes_view nodes.new.items ≡ set (nodes_view nodes.old.items) at (node_view node.entry) }
@@ -194,6 +204,7 @@ fn put<'i>(nodes: &mut Vec<Node<'i>>, at: usize, node: Node<'i>)
 }
 
 /// The node of a container that so many of the next nodes belong to.
+#[inline(always)]
 fn container_node<'i>(kind: ContainerKind, inner: usize) -> Node<'i>
     ensures { node_view result ≡ container kind inner }
 {
