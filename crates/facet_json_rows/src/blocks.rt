@@ -1,7 +1,6 @@
 //! The skip of a value whose bytes stand at each place of the windows and blocks that it is passed by.
 
 use crate::compared::{Mode, parser_of};
-use crate::row::modes;
 use facet_format::FormatParser;
 use std::alloc::{AllocError, Global};
 
@@ -15,13 +14,13 @@ const BLANK: &str = "                                                           
 /// elsewhere: of the three parts that `|` parts, the second is repeated 0 to 130 times.
 pub fn answer_blocks(
     alloc: Global,
-    words: &str,
+    modes: &[Mode],
     text: &str,
     told: &mut String,
 ) -> Result<(), AllocError> {
     let (before, rest) = text.split_once('|').unwrap_or((text, ""));
     let (part, after) = rest.split_once('|').unwrap_or((rest, ""));
-    for mode in modes(words) {
+    for mode in modes {
         let mut last = String::new(alloc);
         for count in 0..=MOST {
             let repeated = part.repeat(alloc, count)?;

@@ -135,7 +135,7 @@ fn answer_text(
         "scanner" => answer_scanner(words, text, told),
         "decode_repeated" => answer_repeated(alloc, words, text, told),
         "repeat" => answer_long(alloc, words, text, told),
-        "blocks" => answer_blocks(alloc, words, text, told),
+        "blocks" => answer_blocks(alloc, modes(words), text, told),
         "equal" => answer_equal(alloc, text, told),
         "write" => answer_write(alloc, words, text, told),
         _ => told.push_str("NO COMMAND\n"),
