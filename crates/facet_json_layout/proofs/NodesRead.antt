@@ -27,7 +27,8 @@ use Rattle.facet_json_document.proofs.WalkComes.{document-comes, events_before-a
 use Rattle.facet_json_layout.specs.Formatted.{GetsStuck, GetsStuckWithin, as_ever, opens_beyond}
 use Rattle.facet_json_layout.specs.Nodes.{Node as DocumentNode, value_at}
 use Rattle.facet_json_layout.specs.Inner.Building.{Nodes, added, none_yet, AddsNext, AddsSome, AddsAll, LeavesRoom, IsTooDeep, RefusesNext, stops, too_deep}
-use Rattle.facet_json_tree.specs.Inner.Beyond.{beyond, SameBeyond}
+use Rattle.facet_json_tree.specs.Depth.{beyond}
+use Rattle.facet_json_tree.specs.Inner.Beyond.{SameBeyond}
 use Rattle.facet_json_tree.proofs.BeyondEvents.{unlimited-none}
 use Rattle.facet_json_layout.proofs.EventsUp.{refused-next, stops-later}
 use Rattle.facet_json_layout.proofs.NodesBuilt.{added-append, built-tree}

@@ -15,8 +15,7 @@ use Rattle.facet_json_document.specs.Walk.{walk}
 use Rattle.facet_json_document.proofs.LongestPrefix.{input-comes}
 use Rattle.facet_json_document.proofs.StrictRoot.{no_end, strict_document-comes}
 use Rattle.facet_json_document.proofs.WalkComes.{document-comes}
-use Rattle.facet_json_tree.specs.Depth.{depth_of, first_beyond, too_deep_at, RefusesWithin, has_none, in_document, in_prefix}
-use Rattle.facet_json_tree.specs.Inner.Beyond.{beyond}
+use Rattle.facet_json_tree.specs.Depth.{depth_of, first_beyond, too_deep_at, RefusesWithin, has_none, in_document, in_prefix, beyond}
 use Rattle.facet_json_tree.proofs.BeyondEvents.{stuck-beyond}
 use Rattle.facet_json_tree.proofs.DepthOfNodes.{none-shallow, shallow-none}
 use Rattle.facet_json_tree.proofs.WalkWithin.{comes-beyond}

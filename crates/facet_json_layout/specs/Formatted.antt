@@ -15,8 +15,7 @@ use Rattle.facet_json_document.specs.Place.{Place, after_root}
 use Rattle.facet_json_document.specs.PrefixRefusal.{Refuses, IsStuck}
 use Rattle.facet_json_document.specs.Tree.{Tree}
 use Rattle.facet_json_core.specs.Reading.{LacksMemory}
-use Rattle.facet_json_tree.specs.Depth.{too_deep_at}
-use Rattle.facet_json_tree.specs.Inner.Beyond.{beyond}
+use Rattle.facet_json_tree.specs.Depth.{too_deep_at, beyond}
 
 -- The text begins with a document.
 abbrev pub BeginsDocument : List ℕ → Mode → Type 0

@@ -15,8 +15,7 @@ ghost use Rattle.std.specs.Prelude.{◌≡◌, ◌≤◌, ◌⊎◌, None, Some,
 ghost use Rattle.facet_json_document.specs.StrictDocument.{IsStrictDocument};
 ghost use Rattle.facet_json_document.specs.Tree.{Tree};
 ghost use Rattle.facet_json_layout.specs.Formatted.{GetsStuckWithin, LacksOrGetsStuck};
-ghost use Rattle.facet_json_tree.specs.Depth.{depth_of, first_beyond, too_deep_at, RefusesWithin};
-ghost use Rattle.facet_json_tree.specs.Inner.Beyond.{beyond};
+ghost use Rattle.facet_json_tree.specs.Depth.{depth_of, first_beyond, too_deep_at, RefusesWithin, beyond};
 ghost use Rattle.facet_json_document.specs.UnreadLaws.{RefusalWithin};
 ghost use Rattle.facet_json_core.specs.Reading.{LacksMemory};
 

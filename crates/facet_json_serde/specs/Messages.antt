@@ -12,7 +12,7 @@ use Rattle.facet_json_serde.specs.declared.streams.StreamError.TheVariants.{Json
 abbrev pub detail_text : Detail → List ℕ
 detail_text d = inline_text d.0
 
--- The kind_message of a kind: the reader's own, or one of this crate's.
+-- The message of a kind: the reader's own, or one of this crate's.
 abbrev pub kind_message : ErrorKind → Option (List ℕ)
 kind_message (Read refused) = read_text (complaint_of refused)
 kind_message TrailingCharacters = Some (codes "trailing characters")

@@ -6,8 +6,8 @@ use Rattle.facet_json_token.specs.Tokens.{Tokens}
 use Rattle.facet_json_document.specs.Place.{Place}
 use Rattle.facet_json_document.specs.Future.{Future, gives, finished, stuck, events_before}
 use Rattle.facet_json_core.specs.Told.{opens}
-use Rattle.facet_json_tree.specs.Depth.{outer, beyond_bracket, beyond_event, events_beyond}
-use Rattle.facet_json_tree.specs.Inner.Beyond.{inner, Admits, beyond, SameBeyond}
+use Rattle.facet_json_tree.specs.Depth.{outer, beyond_bracket, beyond_event, events_beyond, beyond}
+use Rattle.facet_json_tree.specs.Inner.Beyond.{inner, Admits, SameBeyond}
 
 -- ---- without a limit
 

@@ -8,8 +8,7 @@ use Rattle.facet_json_document.specs.Node as node
 use Rattle.facet_json_document.specs.Future.{Future, gives, finished, events_before}
 use Rattle.facet_json_document.specs.Walk.{walk, walk_items, walk_members, event_at}
 use Rattle.facet_json_document.proofs.WalkComes.{events_before-append}
-use Rattle.facet_json_tree.specs.Depth.{first_beyond, first_beyond_items, first_beyond_members}
-use Rattle.facet_json_tree.specs.Inner.Beyond.{beyond}
+use Rattle.facet_json_tree.specs.Depth.{first_beyond, first_beyond_items, first_beyond_members, beyond}
 
 or-none : {A : Type 0} (o : Option A) → option_or o None ≡ o
 or-none None = refl

@@ -16,8 +16,8 @@ use Rattle.facet_json_core.specs.Told.{Breaks}
 use Rattle.facet_json_core.specs.Reading.{LacksMemory}
 use Rattle.facet_json_core.proofs.DocumentFromRoot.{read-only, read-document, unread-only}
 use Rattle.facet_json_core.proofs.PrefixBreaksOff.{begun-breaks}
-use Rattle.facet_json_tree.specs.Depth.{depth_of, first_beyond, too_deep_at, RefusesWithin, has_none, in_document, in_prefix}
-use Rattle.facet_json_tree.specs.Inner.Beyond.{IsReadWithin, as_ever, too_deep, beyond, IsValueUnreadWithin}
+use Rattle.facet_json_tree.specs.Depth.{depth_of, first_beyond, too_deep_at, RefusesWithin, has_none, in_document, in_prefix, beyond}
+use Rattle.facet_json_tree.specs.Inner.Beyond.{IsReadWithin, as_ever, too_deep, IsValueUnreadWithin}
 use Rattle.facet_json_tree.proofs.BeyondEvents.{stuck-beyond}
 use Rattle.facet_json_tree.proofs.DepthOfNodes.{none-shallow}
 use Rattle.facet_json_tree.proofs.WalkWithin.{comes-beyond, read-shallow, unread-shallow, unread-deep}

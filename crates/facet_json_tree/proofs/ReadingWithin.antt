@@ -10,8 +10,8 @@ use Rattle.facet_json_document.specs.Now.{Now, future_of}
 use Rattle.facet_json_document.specs.Next.{PassesNext}
 use Rattle.facet_json_core.specs.Told.{opens, is_member, BreaksItems, BreaksMembers}
 use Rattle.facet_json_core.specs.Reading.{LacksMemory, GivesNone, lacks_memory, at_the_end, is_stuck, IsUnreadBy}
-use Rattle.facet_json_tree.specs.Depth.{outer}
-use Rattle.facet_json_tree.specs.Inner.Beyond.{inner, beyond, SameBeyond, IsUnreadWithin, as_ever, too_deep, IsValueUnreadWithin}
+use Rattle.facet_json_tree.specs.Depth.{outer, beyond}
+use Rattle.facet_json_tree.specs.Inner.Beyond.{inner, SameBeyond, IsUnreadWithin, as_ever, too_deep, IsValueUnreadWithin}
 use Rattle.facet_json_tree.specs.Inner.Reading.{AreItemsUnreadWithin, AreMembersUnreadWithin, whole, a_list, an_object, IsRefused, begins_none, a_scalar, a_bracket, IsLevel, IsUnfilled}
 use Rattle.facet_json_tree.proofs.FirstEventTells.{broken-opens, list-broken, object-broken, items-broken, members-broken, members_broken-begin}
 use Rattle.facet_json_tree.proofs.ReadingValues.{none-value, none-items, none-members, scalar-unread, list-unread, object-unread}

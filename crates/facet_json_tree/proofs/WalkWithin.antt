@@ -10,8 +10,8 @@ use Rattle.facet_json_document.specs.Walk.{walk}
 use Rattle.facet_json_core.specs.Told.{Tells}
 use Rattle.facet_json_core.specs.Reading.{LacksMemory}
 use Rattle.facet_json_core.proofs.WalkTells.{walk-tells}
-use Rattle.facet_json_tree.specs.Depth.{depth_of, first_beyond, too_deep_at}
-use Rattle.facet_json_tree.specs.Inner.Beyond.{beyond, IsReadWithin, as_ever, too_deep, IsValueUnreadWithin}
+use Rattle.facet_json_tree.specs.Depth.{depth_of, first_beyond, too_deep_at, beyond}
+use Rattle.facet_json_tree.specs.Inner.Beyond.{IsReadWithin, as_ever, too_deep, IsValueUnreadWithin}
 use Rattle.facet_json_tree.proofs.BeyondOnWalk.{whole_walk-beyond}
 use Rattle.facet_json_tree.proofs.DepthOfNodes.{shallow-none}
 

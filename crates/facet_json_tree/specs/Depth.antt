@@ -12,6 +12,7 @@ use Rattle.facet_json_document.specs.Node.{Node, scalar, array, object, Nodes, n
 use Rattle.facet_json_document.specs.Tree.{Tree}
 use Rattle.facet_json_document.specs.Place.{Place}
 use Rattle.facet_json_document.specs.Document.{IsDocument}
+use Rattle.facet_json_document.specs.Future.{Future, gives, finished, stuck}
 use Rattle.facet_json_document.specs.Begun.{LongestPrefix, RefusesAfter}
 
 -- ---- values
@@ -80,6 +81,12 @@ beyond_event (event.scalar value) span others limit = others limit
 abbrev pub events_beyond : List Passed → Option ℕ → Option Span
 events_beyond [] limit = None
 events_beyond (p ∷ events) limit = beyond_event p.event.kind p.event.span (events_beyond events) limit
+
+-- the first event to come that opens a container where no more may be opened
+abbrev pub beyond : Future → Option ℕ → Option Span
+beyond (gives p future) limit = beyond_event p.event.kind p.event.span (beyond future) limit
+beyond finished limit = None
+beyond (stuck place rest) limit = None
 
 -- ---- refusals
 

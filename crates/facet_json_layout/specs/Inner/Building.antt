@@ -9,8 +9,7 @@ use Rattle.facet_json_core.specs.Told.{tree_of_scalar}
 use Rattle.facet_json_document.specs.Future.{finished, events_before}
 use Rattle.facet_json_document.specs.Move.{Moves}
 use Rattle.facet_json_document.specs.Now.{Now, future_of}
-use Rattle.facet_json_tree.specs.Depth.{beyond_event, too_deep_at}
-use Rattle.facet_json_tree.specs.Inner.Beyond.{beyond}
+use Rattle.facet_json_tree.specs.Depth.{beyond_event, too_deep_at, beyond}
 use Rattle.facet_json_layout.specs.Nodes.{Node, leaf, key, list, object, closing, nothing, nodes_view}
 use Rattle.facet_format.specs.declared.event.ContainerKind.{ContainerKind as RustContainerKind}
 use Rattle.facet_format.specs.declared.event.ContainerKind.TheVariants as rust

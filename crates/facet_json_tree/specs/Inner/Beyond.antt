@@ -5,10 +5,10 @@ use Rattle.facet_format.specs.Span.{Span}
 use Rattle.facet_json_token.specs.Tokens.{Tokens}
 use Rattle.facet_json_document.specs.Place.{Place}
 use Rattle.facet_json_document.specs.Tree.{Tree}
-use Rattle.facet_json_document.specs.Future.{Future, gives, finished, stuck}
+use Rattle.facet_json_document.specs.Future.{Future, finished}
 use Rattle.facet_json_core.specs.Told.{Tells, Breaks}
 use Rattle.facet_json_core.specs.Reading.{LacksMemory, IsUnreadBy, IsValueRead}
-use Rattle.facet_json_tree.specs.Depth.{beyond_event, too_deep_at}
+use Rattle.facet_json_tree.specs.Depth.{beyond, too_deep_at}
 
 -- how many more containers may be opened within another one
 abbrev pub inner : Option ℕ → Option ℕ
@@ -19,12 +19,6 @@ inner (Some (suc n)) = Some n
 -- One more may be opened.
 abbrev pub Admits : Option ℕ → Type 0
 Admits limit = limit ≢ Some 0
-
--- the first event to come that opens a container where no more may be opened
-abbrev pub beyond : Future → Option ℕ → Option Span
-beyond (gives p future) limit = beyond_event p.event.kind p.event.span (beyond future) limit
-beyond finished limit = None
-beyond (stuck place rest) limit = None
 
 -- From the start on, within the limit, the same is first beyond as from here on, within what is left of it.
 pub record SameBeyond (start : Future) (limit : Option ℕ) (here : Future) (left : Option ℕ) : Type 0 where
