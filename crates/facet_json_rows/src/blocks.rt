@@ -10,26 +10,53 @@ const MOST: usize = 130;
 /// More white space than a block is long.
 const BLANK: &str = "                                                                      ";
 
-/// Writes where a skip of the root ends, counted from the end of the repeated part, for each number of times from which on it ends
-/// elsewhere: of the three parts that `|` parts, the second is repeated 0 to 130 times.
+/// An input in three parts.
+#[derive(Clone, Copy)]
+struct Parts<'a> {
+    before: &'a str,
+    repeated: &'a str,
+    after: &'a str,
+}
+
+/// The parts that `|` parts.
+fn parts_of(text: &str) -> Parts<'_> {
+    let (before, rest) = text.split_once('|').unwrap_or((text, ""));
+    let (repeated, after) = rest.split_once('|').unwrap_or((rest, ""));
+    Parts {
+        before,
+        repeated,
+        after,
+    }
+}
+
+/// Writes for each mode where a skip of the root ends, where the second of three parts is repeated 0 to 130 times.
 pub fn answer_blocks(
     alloc: Global,
     modes: &[Mode],
     text: &str,
     told: &mut String,
 ) -> Result<(), AllocError> {
-    let (before, rest) = text.split_once('|').unwrap_or((text, ""));
-    let (part, after) = rest.split_once('|').unwrap_or((rest, ""));
     for mode in modes {
-        let mut last = String::new(alloc);
-        for count in 0..=MOST {
-            let repeated = part.repeat(alloc, count)?;
-            let end = end(alloc, *mode, before, repeated.as_str(), after)?;
-            if end != last {
-                writeln!(told, "{count}: {end}")?;
-            }
-            last = end;
+        write_ends(alloc, *mode, parts_of(text), told)?;
+    }
+    Ok(())
+}
+
+/// Writes where the skip ends, counted from the end of the repeated part, for each number of times from which on it ends elsewhere.
+fn write_ends(
+    alloc: Global,
+    mode: Mode,
+    parts: Parts<'_>,
+    told: &mut String,
+) -> Result<(), AllocError> {
+    let mut last = String::new(alloc);
+    for count in 0..=MOST {
+        let repeated = parts.repeated.repeat(alloc, count)?;
+        let end = end(alloc, mode, parts.before, repeated.as_str(), parts.after)?;
+        if end != last {
+            writeln!(told, "{count}: {end}")?;
         }
+        last = end;
     }
     Ok(())
 }

@@ -2,4 +2,5 @@ pub mod BegunCalls
 pub mod BegunSteps
 pub mod ByteLists
 pub mod FloatTexts
+pub mod Spellings
 pub mod StepsRead

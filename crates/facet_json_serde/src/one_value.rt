@@ -83,6 +83,7 @@ impl<'i> OneValue<'i> {
     }
 
     /// Begins a list.
+    #[inline(always)]
     pub(crate) fn begin_list(&mut self) -> Result<(), Refusal> {
         if !self.stage.takes_value() {
             return Err(Refusal::NotOneValue);
@@ -101,6 +102,7 @@ impl<'i> OneValue<'i> {
     }
 
     /// Begins a struct.
+    #[inline(always)]
     pub(crate) fn begin_struct(&mut self) -> Result<(), Refusal> {
         if !self.stage.takes_value() {
             return Err(Refusal::NotOneValue);
@@ -119,6 +121,7 @@ impl<'i> OneValue<'i> {
     }
 
     /// Ends the innermost list.
+    #[inline(always)]
     pub(crate) fn end_list(&mut self) -> Result<(), Refusal> {
         let Stage::Item = self.stage else {
             return Err(Refusal::NotOneValue);
@@ -134,6 +137,7 @@ impl<'i> OneValue<'i> {
     }
 
     /// Ends the innermost struct.
+    #[inline(always)]
     pub(crate) fn end_struct(&mut self) -> Result<(), Refusal> {
         let Stage::Key = self.stage else {
             return Err(Refusal::NotOneValue);

@@ -1,6 +1,7 @@
 //! JSON as a `Serializer` of `serde`'s: each event is a call of one value's, so all that is written is one value.
 
-ghost use Rattle.std.specs.Prelude.{◌≡◌, true, IfOk};
+ghost use Rattle.std.specs.Prelude.{◌≡◌, ℕ, List, true, string_bytes, IfOk, OnOk};
+ghost use Rattle.serde.specs.Spelling.{spelled};
 ghost use Rattle.facet_json_serializer.specs.OptionsViews.{options_of};
 ghost use Rattle.facet_format.specs.Views.{scalar_value_of};
 ghost use Rattle.facet_json_serde.specs.OneValue.{IsTextOfTree, IsTree};
@@ -11,7 +12,7 @@ use crate::one_value::OneValue;
 use facet_format::ScalarValue;
 use facet_json_serializer::SerializeOptions;
 use serde::{Case, NameKind, Serializer};
-use std::alloc::Global;
+use std::alloc::{AllocError, Global};
 use std::borrow::CowStr;
 use std::fmt;
 use std::fmt::Write;
@@ -198,15 +199,30 @@ impl<'i> JsonWriter<'i> {
         kind: NameKind,
         is_key: bool,
     ) -> Result<(), WriteFault> {
-        if let Case::AsIs = case {
+        if stands(case, kind) {
             return self.text(name, is_key);
         }
-        self.room.clear();
-        if case.append(kind, name, &mut self.room).is_err() {
-            return Err(self.fail(Refusal::OutOfMemory));
+        match self.spell(name, case, kind) {
+            Ok(()) => self.room_text(is_key),
+            Err(AllocError) => Err(self.fail(Refusal::OutOfMemory)),
         }
-        self.room_text(is_key)?;
-        Ok(())
+    }
+
+    /// Puts the name in this case into the room. Small letters, which are asked for most, come all at once.
+    #[inline(never)]
+    #[tactic(auto, using(crate::proofs::Spellings::lowered))]
+    fn spell(&mut self, name: &str, case: Case, kind: NameKind) -> Result<(), AllocError>
+        ensures { OnOk result (string_bytes self.new.room ≡ spelled case kind name.now) }
+    {
+        self.room.clear();
+        match (case, kind) {
+            (Case::Lower, NameKind::Variant) => {
+                self.room.push_str(name)?;
+                self.room.make_ascii_lowercase();
+                Ok(())
+            }
+            _ => case.append(kind, name, &mut self.room),
+        }
     }
 
     /// Writes the text of a number with a fraction or an exponent.
@@ -220,6 +236,18 @@ impl<'i> JsonWriter<'i> {
         let answer = self.value.number(text);
         self.settle(answer)
     }
+}
+
+/// Whether such a name stands for itself in this case.
+#[inline(always)]
+#[tactic(auto, using(crate::proofs::Spellings::as_it_is, crate::proofs::Spellings::small_field, crate::proofs::Spellings::snake_field))]
+fn stands(case: Case, kind: NameKind) -> bool
+    ensures { result ≡ true → (name : List ℕ) → spelled case kind name ≡ name }
+{
+    matches!(
+        (case, kind),
+        (Case::AsIs, _) | (Case::Lower | Case::Snake, NameKind::Field)
+    )
 }
 
 impl<'i> Serializer for JsonWriter<'i> {
