@@ -2,7 +2,7 @@
 //! memory, which is refused, and it has to pass in every such run. Each text is tried twice: as one request is refused in a run, memory runs out
 //! in one of the two at most, and the other gives the whole answer.
 
-use crate::enums::Command;
+use crate::enums::{Adjacent, Command};
 use crate::structs::Account;
 use facet_json_serde::{DeserializeErrorKind, Error, ErrorKind, from_str, to_string};
 use serde::{Deserialize, Serialize};
@@ -52,4 +52,6 @@ fn a_growth_is_refused(rt: HostRuntime) {
     let text = r#"[{"x":1,"kind":"move_to","y":-2},{"kind":"stop"}]"#;
     let written = r#"[{"kind":"move_to","x":1,"y":-2},{"kind":"stop"}]"#;
     assert!(rt; comes_back_but_once::<Vec<Command>>(alloc, text, written));
+    let text = r#"[{"t":"two","c":[1,2]},{"t":"nothing"}]"#;
+    assert!(rt; comes_back_but_once::<Vec<Adjacent>>(alloc, text, text));
 }

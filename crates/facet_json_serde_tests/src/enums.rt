@@ -20,8 +20,8 @@ pub(crate) enum Command {
 }
 
 #[derive(Drop, Serialize, Deserialize)]
-#[serde(tag = "t", content = "c")]
-enum Adjacent {
+#[serde(tag = "t", content = "c", rename_all = "lowercase")]
+pub(crate) enum Adjacent {
     One(u8),
     Two(u8, u8),
     Nothing,
@@ -79,10 +79,10 @@ static COMMANDS: [Case<'static>; 4] = [
 /// By a member, beside one of the data.
 static ADJACENT: [Case<'static>; 3] = [
     (
-        r#"[{"t":"One","c":1},{"t":"Two","c":[1,2]},{"t":"Nothing"}]"#,
-        r#"[{"t":"One","c":1},{"t":"Two","c":[1,2]},{"t":"Nothing"}]"#,
+        r#"[{"t":"one","c":1},{"t":"two","c":[1,2]},{"t":"nothing"}]"#,
+        r#"[{"t":"one","c":1},{"t":"two","c":[1,2]},{"t":"nothing"}]"#,
     ),
-    (r#"[{"c":[1,2],"t":"Two"}]"#, r#"[{"t":"Two","c":[1,2]}]"#),
+    (r#"[{"c":[1,2],"t":"two"}]"#, r#"[{"t":"two","c":[1,2]}]"#),
     (
         "[{\"c\":[1,\n2}]",
         "unexpected token: got '}', expected ']' at line 2, column 2\n2}]\n ^",

@@ -28,6 +28,7 @@ pub(crate) struct Account {
 }
 
 #[derive(Drop, Serialize, Deserialize)]
+#[serde(rename_all = "snake_case")]
 struct Outer {
     id: u32,
     #[serde(flatten)]
@@ -36,6 +37,7 @@ struct Outer {
 }
 
 #[derive(Drop, Serialize, Deserialize)]
+#[serde(rename_all = "lowercase")]
 struct Inner {
     a: Option<char>,
     b: u128,
