@@ -34,7 +34,7 @@ static ZEROS: [u8; MOST_AHEAD] = [0; MOST_AHEAD];
 /// # Errors
 ///
 /// Each call that appends is refused with `AllocError` alone, where an allocation fails.
-#[derive(Debug, Drop)]
+#[derive(Drop)]
 pub struct Sink {
     /// What was appended, and the room after it.
     bytes: Vec<u8>,

@@ -2,9 +2,7 @@
 //! of their requests for memory, which is refused, and they have to pass in every such run. Each row is tried twice, its set-up too: as
 //! one request is refused in a run, memory runs out in one of the two at most, and the other gives the whole answer.
 
-use facet_format::{
-    DeserializeError, DeserializeErrorKind, FormatParser, ParseError, ParseEvent, Span,
-};
+use facet_format::{DeserializeError, DeserializeErrorKind, FormatParser, ParseError, Span};
 use facet_json::scanner::Mode;
 use facet_json::steps::{FindError, begin_object, find_key, find_pointer};
 use facet_json::{
@@ -179,16 +177,16 @@ fn goes_on(
     kind: DeserializeErrorKind<'_>,
     span: Option<Span>,
     current: Option<Span>,
-    next: Result<Option<ParseEvent<'_>>, ParseError<'_>>,
+    refused: Option<ParseError<'_>>,
 ) -> bool {
     let lacks = DeserializeErrorKind::OutOfMemory;
-    match (span, next) {
-        (Some(at), Err(again)) if kind == lacks => {
+    match (span, refused) {
+        (Some(at), Some(again)) if kind == lacks => {
             again == ParseError::new(at, lacks) && current == Some(at)
         }
-        (Some(_), Ok(_)) => kind != lacks,
-        (_, Err(other)) => other.kind != lacks,
-        (None, Ok(_)) => true,
+        (Some(_), None) => kind != lacks,
+        (_, Some(other)) => other.kind != lacks,
+        (None, None) => true,
     }
 }
 
@@ -200,7 +198,7 @@ fn leaves<T>(answer: &Result<T, DeserializeError<'_>>, parser: &mut JsonParser<'
             error.kind,
             error.span,
             parser.current_span(),
-            parser.next_event(),
+            parser.next_event().err(),
         ),
     }
 }

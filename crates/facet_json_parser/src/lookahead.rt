@@ -29,7 +29,6 @@ use std::alloc::{AllocError, Global};
 use std::collections::VecDeque;
 
 /// What a save keeps.
-#[derive(Debug, Drop)]
 pub struct Lookahead<'de> {
     /// Where the tokens go on.
     pub reader: Reader,
@@ -37,6 +36,17 @@ pub struct Lookahead<'de> {
     pub held: Option<Held<'de>>,
     /// Whether a peek answered it.
     pub shown: bool,
+}
+
+/// By a call, so that a proof about a function that owns one need not take it apart.
+impl Drop for Lookahead<'_> {
+    fn drop(self) {
+        let Lookahead {
+            reader: _,
+            held: _,
+            shown: _,
+        } = self;
+    }
 }
 
 impl<'de> Lookahead<'de> {
@@ -85,7 +95,7 @@ impl<'de> Lookahead<'de> {
         };
         self.reader.pass(&held);
         self.shown = false;
-        Ok(Some(held.event))
+        Ok(Some(held.into_event()))
     }
 
     /// Passes the next event and answers it, where none is held and a few bytes decide it. Else nothing changes.
@@ -291,7 +301,7 @@ impl<'de> Lookahead<'de> {
         let held = self.held.take()?;
         self.shown = false;
         self.reader.pass(&held);
-        Some(held.event)
+        Some(held.into_event())
     }
 
     /// Stands after the part, whose last token takes these bytes.

@@ -28,6 +28,7 @@ use facet_json_reader::{Language, Refused, Sought, Wanted};
 use facet_json_token::{Mode, Trust};
 use std::alloc::Global;
 use std::collections::VecDeque;
+use std::fmt;
 use std::marker::Model;
 
 /// A parser of a JSON document (RFC 8259, sections 2 to 7), event by event, over an input that lives for `'de`.
@@ -56,7 +57,6 @@ use std::marker::Model;
 ///
 /// A refusal of a call for events, of a skip or of a capture sticks: these calls and saves repeat it, until a point that is
 /// kept is restored. A refused save changes nothing, and does not stick.
-#[derive(Debug)]
 pub struct JsonParser<'de> {
     alloc: Global,
     input: &'de [u8],
@@ -66,6 +66,13 @@ pub struct JsonParser<'de> {
     refusal: Option<Refused>,
     points: Vec<Point<'de>>,
     counter: u64,
+}
+
+/// Its name alone.
+impl fmt::Debug for JsonParser<'_> {
+    fn fmt<W: fmt::Write>(&self, f: &mut fmt::Formatter<W>) -> fmt::Result {
+        f.debug_struct("JsonParser").finish_non_exhaustive()
+    }
 }
 
 /// By a call, so that a proof about a function that owns a parser need not take it apart.

@@ -12,7 +12,7 @@ use crate::lookahead::Lookahead;
 use std::alloc::{AllocError, Global};
 
 /// A lookahead that is kept under a number.
-#[derive(Debug, Drop)]
+#[derive(Drop)]
 pub struct Point<'de> {
     /// The number.
     pub number: u64,

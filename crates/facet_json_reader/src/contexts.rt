@@ -12,7 +12,7 @@ use std::marker::Model;
 
 /// The kinds of the containers that are open, the innermost first: a bit each, 1 for an object and 0 for an array, in words of
 /// 64 bits. So many containers take `(depth + 63) / 64` words, and the innermost word stands in a field of its own.
-#[derive(Debug, Drop)]
+#[derive(Drop)]
 pub struct Contexts {
     /// How many containers are open.
     depth: usize,

@@ -16,7 +16,7 @@ use facet_json_token::{
 };
 
 /// What a parser takes as a document. What may stand between its tokens is the scanner's mode.
-#[derive(Debug, Clone, Copy)]
+#[derive(Clone, Copy)]
 pub enum Language {
     /// The lenient readings of RFC 8259, with these gaps between tokens.
     Lenient(Mode),

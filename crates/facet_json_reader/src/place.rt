@@ -12,7 +12,7 @@ use facet_json_token::Token;
 
 /// Where no value has begun yet, or what stands before, within the innermost open container. After a key's string
 /// is no place of its own: its colon is taken with it.
-#[derive(Debug, Clone, Copy)]
+#[derive(Clone, Copy)]
 pub enum Place {
     /// Before the root.
     Root,

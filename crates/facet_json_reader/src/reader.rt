@@ -29,7 +29,7 @@ use std::alloc::{AllocError, Global};
 use std::borrow::CowStr;
 
 /// A place within the root, or after its end.
-#[derive(Debug, Clone, Copy)]
+#[derive(Clone, Copy)]
 pub enum Stage {
     /// Within the root, or before it.
     Within(Place),
@@ -63,7 +63,6 @@ impl Stage {
 }
 
 /// An event that is read, but not passed yet.
-#[derive(Debug, Drop)]
 pub struct Held<'de> {
     /// The event.
     pub event: ParseEvent<'de>,
@@ -71,7 +70,23 @@ pub struct Held<'de> {
     pub last: Span,
 }
 
+/// By a call, so that a proof about a function that owns one need not take the event apart.
+impl Drop for Held<'_> {
+    fn drop(self) {
+        let Held { event: _, last: _ } = self;
+    }
+}
+
 impl<'de> Held<'de> {
+    /// The event.
+    #[inline(always)]
+    pub fn into_event(self) -> ParseEvent<'de>
+        ensures { result ≡ self.entry.event }
+    {
+        let Held { event, last: _ } = self;
+        event
+    }
+
     /// The same event. A text that is made is copied.
     pub fn copy(&self, alloc: Global) -> Result<Held<'de>, AllocError>
         ensures { IfOk result (λ h. passed_of h ≡ passed_of self.now) }
@@ -84,7 +99,7 @@ impl<'de> Held<'de> {
 }
 
 /// Where the tokens go on, in which containers.
-#[derive(Debug, Drop)]
+#[derive(Drop)]
 pub struct Reader {
     /// The last token that was passed: the tokens go on at its end.
     pub last: Span,

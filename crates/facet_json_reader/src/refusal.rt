@@ -11,7 +11,7 @@ use facet_format::{DeserializeErrorKind, ParseError, Span};
 use facet_json_token::{Fault, FaultKind, Inside};
 
 /// What is expected where a document doesn't go on.
-#[derive(Debug, Clone, Copy)]
+#[derive(Clone, Copy)]
 pub enum Expected {
     /// A value.
     Value,
@@ -56,7 +56,7 @@ impl Expected {
 }
 
 /// How a token, or the end of the input, is called in a refusal.
-#[derive(Debug, Clone, Copy)]
+#[derive(Clone, Copy)]
 pub enum Name {
     /// `{`
     ObjectStart,
@@ -128,7 +128,7 @@ impl Name {
 }
 
 /// Why there is no raw text.
-#[derive(Debug, Clone, Copy)]
+#[derive(Clone, Copy)]
 pub enum NoRaw {
     /// A key stands there.
     Key,
@@ -152,7 +152,7 @@ impl NoRaw {
 }
 
 /// Why a parser refused.
-#[derive(Debug, Clone, Copy)]
+#[derive(Clone, Copy)]
 pub enum Why {
     /// No token goes on with this character.
     Char(char),
@@ -208,7 +208,7 @@ impl Why {
 }
 
 /// Why a parser refused, and which bytes it is about.
-#[derive(Debug, Clone, Copy)]
+#[derive(Clone, Copy)]
 pub struct Refused {
     /// Why.
     pub why: Why,

@@ -82,10 +82,10 @@ impl<'t> From<Refusal> for Error<'t> {
 
 impl<'t> From<WriteFault> for Error<'t> {
     fn from(fault: WriteFault) -> Error<'t> {
-        match fault {
-            WriteFault::Refused(why) => Error::from(why),
+        match &fault {
+            WriteFault::Refused(why) => Error::from(*why),
             WriteFault::Custom(detail) => Error {
-                kind: ErrorKind::Custom(*detail),
+                kind: ErrorKind::Custom(**detail),
                 span: None,
             },
         }

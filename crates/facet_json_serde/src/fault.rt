@@ -33,7 +33,7 @@ impl fmt::Debug for Detail {
 }
 
 /// What a step was to read, or what came in its place.
-#[derive(Debug, Clone, Copy, Drop)]
+#[derive(Clone, Copy, Drop)]
 pub(crate) enum Sort {
     /// `true` or `false`.
     Bool,
@@ -100,7 +100,7 @@ impl Sort {
 }
 
 /// What is wrong.
-#[derive(Debug, Clone, Copy, Drop)]
+#[derive(Clone, Copy, Drop)]
 pub(crate) enum ReadFaultKind {
     /// The parser refused, and repeats it when it is asked.
     Parser,
@@ -131,12 +131,29 @@ pub(crate) enum ReadFaultKind {
 }
 
 /// What is wrong, and where: the error of `Json`'s steps. `Error` is the same with its words: `Json::told` gives it.
-#[derive(Debug, Drop)]
 pub struct ReadFault {
     pub(crate) kind: ReadFaultKind,
     pub(crate) span: Option<Span>,
     /// The field that it is about, or what a type says: boxed, since each step of each type hands the fault on.
     pub(crate) detail: Option<Box<Detail>>,
+}
+
+/// Its name alone: `Json::told` has the words.
+impl fmt::Debug for ReadFault {
+    fn fmt<W: fmt::Write>(&self, f: &mut fmt::Formatter<W>) -> fmt::Result {
+        f.debug_struct("ReadFault").finish_non_exhaustive()
+    }
+}
+
+/// By a call, so that a proof about a step need not take its fault apart.
+impl Drop for ReadFault {
+    fn drop(self) {
+        let ReadFault {
+            kind: _,
+            span: _,
+            detail: _,
+        } = self;
+    }
 }
 
 impl ReadFault {
@@ -166,8 +183,9 @@ impl ReadFault {
     pub(crate) fn about(self, alloc: Global, detail: &str) -> ReadFault {
         match Box::new(alloc, Detail::of(detail)) {
             Ok(detail) => ReadFault {
+                kind: self.kind,
+                span: self.span,
                 detail: Some(detail),
-                ..self
             },
             Err(_) => ReadFault::of(ReadFaultKind::Memory),
         }
@@ -204,12 +222,22 @@ pub enum Refusal {
 }
 
 /// The error of `JsonWriter`'s steps: small, since each step of each type hands it on. `Error` is the same with its words, by `Error::from`.
-#[derive(Debug, Drop)]
+#[derive(Debug)]
 pub enum WriteFault {
     /// The writer refuses.
     Refused(Refusal),
     /// A type refuses, and says why.
     Custom(Box<Detail>),
+}
+
+/// By a call, so that a proof about a step need not take its fault apart.
+impl Drop for WriteFault {
+    fn drop(self) {
+        match self {
+            WriteFault::Refused(_) => {}
+            WriteFault::Custom(_) => {}
+        }
+    }
 }
 
 impl WriteFault {

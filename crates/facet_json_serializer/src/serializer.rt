@@ -14,6 +14,7 @@ use crate::options::SerializeOptions;
 use crate::writing::{Call, Writing};
 use facet_format::{FormatSerializer, ScalarValue};
 use std::alloc::Global;
+use std::fmt;
 use std::marker::Model;
 
 /// Writes JSON (RFC 8259) call by call, in the layout of its options, which are lent for `'i`.
@@ -37,10 +38,16 @@ use std::marker::Model;
 ///
 /// Every call is refused with `OutOfMemory` where an allocation fails, and from then on, `finish` too. The other refusals
 /// change nothing.
-#[derive(Debug)]
 pub struct JsonSerializer<'i> {
     writing: Writing<'i>,
     failed: bool,
+}
+
+/// Its name alone.
+impl fmt::Debug for JsonSerializer<'_> {
+    fn fmt<W: fmt::Write>(&self, f: &mut fmt::Formatter<W>) -> fmt::Result {
+        f.debug_struct("JsonSerializer").finish_non_exhaustive()
+    }
 }
 
 /// By a call, so that a proof about a function that owns a serializer need not take it apart.
@@ -136,6 +143,7 @@ impl<'i> FormatSerializer for JsonSerializer<'i> {
     /// # Errors
     ///
     /// `OutOfMemory`.
+    #[inline(always)]
     fn begin_struct(&mut self) -> Result<(), JsonSerializeError>
         ensures serves { IsServed Takes IsSpent self.old begin_struct result self.new }
         ensures appends { Appends self.old begin_struct (call_answer_of result) self.new }
@@ -165,6 +173,7 @@ impl<'i> FormatSerializer for JsonSerializer<'i> {
     /// # Errors
     ///
     /// `NoStructToEnd`, where the innermost open container is a list, or none is open. `OutOfMemory`.
+    #[inline(always)]
     fn end_struct(&mut self) -> Result<(), JsonSerializeError>
         ensures serves { IsServed Takes IsSpent self.old end_struct result self.new }
         ensures appends { Appends self.old end_struct (call_answer_of result) self.new }
@@ -177,6 +186,7 @@ impl<'i> FormatSerializer for JsonSerializer<'i> {
     /// # Errors
     ///
     /// `OutOfMemory`.
+    #[inline(always)]
     fn begin_seq(&mut self) -> Result<(), JsonSerializeError>
         ensures serves { IsServed Takes IsSpent self.old begin_seq result self.new }
         ensures appends { Appends self.old begin_seq (call_answer_of result) self.new }
@@ -189,6 +199,7 @@ impl<'i> FormatSerializer for JsonSerializer<'i> {
     /// # Errors
     ///
     /// `NoListToEnd`, where the innermost open container is a struct, or none is open. `OutOfMemory`.
+    #[inline(always)]
     fn end_seq(&mut self) -> Result<(), JsonSerializeError>
         ensures serves { IsServed Takes IsSpent self.old end_seq result self.new }
         ensures appends { Appends self.old end_seq (call_answer_of result) self.new }

@@ -41,7 +41,7 @@ pub(crate) enum Call<'a> {
 }
 
 /// The options, the containers that are open, and the text so far.
-#[derive(Debug, Drop)]
+#[derive(Drop)]
 pub(crate) struct Writing<'i> {
     pub(crate) options: SerializeOptions<'i>,
     pub(crate) stack: Containers,
@@ -155,6 +155,7 @@ impl<'i> Writing<'i> {
     }
 
     /// Ends the innermost struct.
+    #[inline(always)]
     pub(crate) fn end_struct(&mut self) -> Result<(), JsonSerializeError>
         ensures { Writes (writing_of self.old) calls.end_struct (call_answer_of result) (writing_of self.new) }
     {
@@ -165,6 +166,7 @@ impl<'i> Writing<'i> {
     }
 
     /// Ends the innermost list.
+    #[inline(always)]
     pub(crate) fn end_seq(&mut self) -> Result<(), JsonSerializeError>
         ensures { Writes (writing_of self.old) calls.end_seq (call_answer_of result) (writing_of self.new) }
     {
@@ -262,7 +264,7 @@ impl<'i> Writing<'i> {
 }
 
 /// An open container, and whether nothing stands in it yet.
-#[derive(Debug, Clone, Copy)]
+#[derive(Clone, Copy)]
 pub(crate) enum Container {
     /// Of keys and values.
     Struct {
@@ -277,7 +279,7 @@ pub(crate) enum Container {
 }
 
 /// The containers that are open.
-#[derive(Debug, Drop)]
+#[derive(Drop)]
 pub(crate) struct Containers {
     innermost: Option<Container>,
     /// Those around it, the outermost first; none where nothing is open.

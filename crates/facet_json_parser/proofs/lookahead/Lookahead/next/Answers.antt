@@ -34,12 +34,12 @@ returns-in_default-clause-passed c =
     over-passes c.args.input.now (language_of c.args.language) (lookahead_of c.args.self.now) (lookahead_of c.begin.new.self) (ap (option_map passed_of) c.in_ok-held.ensures.free)
     (rw c.in_default.is at c.in_ok-held.ensures.spot) (c.in_ok-held.ensures.over c.in_default.is)
 
-pub taken : (c : goal.After-self-1) → TakesHeld (lookahead_with (Some (passed_of c.in-Some.held)) (lookahead_of c.begin.new.self)) (event_of c.in-Some.held.event)
+pub taken : (c : goal.After-into_event) → TakesHeld (lookahead_with (Some (passed_of c.in-Some.held)) (lookahead_of c.begin.new.self)) (event_of c.into_event.result)
     (lookahead_of (record { reader = c.pass.new.self; held = c.begin.new.self.held; shown = false }))
 taken c = record {
   p = passed_of c.in-Some.held;
   held = refl;
-  event = refl;
+  event = ap event_of c.into_event.ensures;
   new = λ stack opened. rw (c.pass.ensures stack opened, c.in_ok-held.ensures.free) refl;
 }
 
