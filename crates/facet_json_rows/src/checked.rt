@@ -1,7 +1,5 @@
 //! What RFC 8259 asks of strings' contents and of numbers, beyond what makes them tokens.
 
-ghost use Rattle.std.specs.Prelude.{◌≤◌, length};
-
 use crate::row::{first_word, range};
 use crate::tokens::write_refusal;
 use facet_json::scanner::{ScanError, check_number_strict, check_string_strict};
@@ -10,24 +8,9 @@ use std::alloc::AllocError;
 /// Writes whether a range of the buffer passes a check, or the refusal: `string` or `number`, and perhaps `START..END`.
 pub fn answer_check(words: &str, buffer: &[u8], told: &mut String) -> Result<(), AllocError> {
     let (name, at) = first_word(words);
-    match range(at, buffer.len()) {
-        Some((start, end)) if start <= end && end <= buffer.len() => {
-            write_checked(name, buffer, start, end, told)
-        }
-        _ => told.push_str("NO RANGE\n"),
-    }
-}
-
-fn write_checked(
-    name: &str,
-    buffer: &[u8],
-    start: usize,
-    end: usize,
-    told: &mut String,
-) -> Result<(), AllocError>
-    requires in_order { start ≤ end }
-    requires in_range { end ≤ length buffer.now }
-{
+    let Some((start, end)) = range(at, buffer.len()) else {
+        return told.push_str("NO RANGE\n");
+    };
     match name {
         "string" => write_passed(&check_string_strict(buffer, start, end), told),
         "number" => write_passed(&check_number_strict(buffer, start, end), told),

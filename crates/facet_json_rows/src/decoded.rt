@@ -20,24 +20,9 @@ pub fn answer_decode(
     buffer: &[u8],
     told: &mut String,
 ) -> Result<(), AllocError> {
-    match range(words, buffer.len()) {
-        Some((start, end)) if start <= end && end <= buffer.len() => {
-            write_both(alloc, buffer, start, end, told)
-        }
-        _ => told.push_str("NO RANGE\n"),
-    }
-}
-
-fn write_both(
-    alloc: Global,
-    buffer: &[u8],
-    start: usize,
-    end: usize,
-    told: &mut String,
-) -> Result<(), AllocError>
-    requires in_order { start ≤ end }
-    requires in_range { end ≤ length buffer.now }
-{
+    let Some((start, end)) = range(words, buffer.len()) else {
+        return told.push_str("NO RANGE\n");
+    };
     write_decoded(&decode_string(alloc, buffer, start, end, true), told)?;
     write_decoded(&decode_string(alloc, buffer, start, end, false), told)?;
     if agree(alloc, buffer, start, end) {

@@ -13,9 +13,7 @@ use std::alloc::{AllocError, Global};
 pub fn answer_number(words: &str, buffer: &[u8], told: &mut String) -> Result<(), AllocError> {
     let (name, at) = first_word(words);
     match (hint(name), range(at, buffer.len())) {
-        (Some(hint), Some((start, end))) if start <= end && end <= buffer.len() => {
-            write_number(buffer, start, end, hint, told)
-        }
+        (Some(hint), Some((start, end))) => write_number(buffer, start, end, hint, told),
         _ => told.push_str("NO NUMBER\n"),
     }
 }

@@ -1,5 +1,7 @@
 //! Rows, and the commands in them.
 
+ghost use Rattle.std.specs.Prelude.{◌≤◌, IfSome};
+
 use crate::blocks::answer_blocks;
 use crate::checked::answer_check;
 use crate::compared::{Mode, Way, compare};
@@ -142,11 +144,18 @@ fn answer_text(
     }
 }
 
-/// The range that the words name, `START..END`; where there are none, all of so many bytes.
-pub fn range(words: &str, len: usize) -> Option<(usize, usize)> {
-    match words.split_once("..") {
-        Some((start, end)) => Some((start.parse().ok()?, end.parse().ok()?)),
-        None => Some((0, len)),
+/// The range that the words name, `START..END`, where it lies within so many bytes; where there are no words, all of these.
+pub fn range(words: &str, len: usize) -> Option<(usize, usize)>
+    ensures { IfSome result (λ r. (r.0 ≤ r.1) × (r.1 ≤ len)) }
+{
+    let (start, end): (usize, usize) = match words.split_once("..") {
+        Some((start, end)) => (start.parse().ok()?, end.parse().ok()?),
+        None => (0, len),
+    };
+    if start <= end && end <= len {
+        Some((start, end))
+    } else {
+        None
     }
 }
 
