@@ -2,6 +2,7 @@
 //! of their requests for memory, which is refused, and they have to pass in every such run. Each row is tried twice, its set-up too: as
 //! one request is refused in a run, memory runs out in one of the two at most, and the other gives the whole answer.
 
+use crate::document_texts::is_written as writes_document;
 use facet_format::{DeserializeError, DeserializeErrorKind, FormatParser, ParseError, Span};
 use facet_json::scanner::Mode;
 use facet_json::steps::{FindError, begin_object, find_key, find_pointer};
@@ -927,4 +928,18 @@ fn is_taken(alloc: Global) -> Option<bool> {
 fn a_growth_is_refused_where_a_tree_is_taken(rt: HostRuntime) {
     let first = is_taken(rt.alloc());
     assert!(rt; but_once(first, is_taken(rt.alloc())));
+}
+
+/// Whether a document's value is written, if memory suffices.
+fn is_written_again(alloc: Global) -> Option<bool> {
+    let text = "[{\"\\u0061\":18446744073709551616,\"b\":[1.5,[]]},\"c\"]";
+    let wanted =
+        "[[{\"a\":\"18446744073709551616\",\"b\":[1.5,[]]},\"c\"],[{\"a\":\"18446744073709551616\",\"b\":[1.5,[]]},\"c\"]]";
+    writes_document(alloc, text, wanted)
+}
+
+#[test]
+fn a_growth_is_refused_where_a_value_is_written(rt: HostRuntime) {
+    let first = is_written_again(rt.alloc());
+    assert!(rt; but_once(first, is_written_again(rt.alloc())));
 }

@@ -6,6 +6,7 @@ pub mod NodesBuilt
 pub mod NodesRead
 pub mod NodesSeen
 pub mod NodesWithin
+pub mod NodesWritten
 pub mod OneDocuments
 pub mod PieceComments
 pub mod PieceRows

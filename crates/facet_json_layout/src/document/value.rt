@@ -11,6 +11,7 @@ ghost use Rattle.facet_json_layout.specs.Inner.Looking.{IsLeaf, IsNodeAt, IsNext
 
 mod copying;
 mod pointer;
+mod writing;
 
 use crate::document::held::{Items, Members};
 use crate::document::node::{Node, ValueKind};

@@ -1,0 +1,77 @@
+//! Values of a document, written by a serializer that the caller holds. The wanted texts are those of RFC 8259 for these values.
+
+use facet_format::FormatSerializer;
+use facet_json::{Document, JsonSerializeError, JsonSerializer, SerializeOptions};
+use std::alloc::Global;
+
+/// A text, and the list of its root twice, as it is written.
+type Row = (&'static str, &'static str);
+
+static ROWS: [Row; 9] = [
+    ("null", "[null,null]"),
+    (" [ true , false ] ", "[[true,false],[true,false]]"),
+    ("-5", "[-5,-5]"),
+    (
+        "18446744073709551615",
+        "[18446744073709551615,18446744073709551615]",
+    ),
+    (
+        "18446744073709551616",
+        "[\"18446744073709551616\",\"18446744073709551616\"]",
+    ),
+    ("[1.50,1E9]", "[[1.50,1E9],[1.50,1E9]]"),
+    (
+        "\"a\\u0062\\n\\ud834\\udd1e\"",
+        "[\"ab\\n\u{1d11e}\",\"ab\\n\u{1d11e}\"]",
+    ),
+    ("[[],{},[[]],]", "[[[],{},[[]]],[[],{},[[]]]]"),
+    (
+        "{\"a\":1,\"\\u0061\":{\"b\":[2,3]},\"c\":{}}",
+        "[{\"a\":1,\"a\":{\"b\":[2,3]},\"c\":{}},{\"a\":1,\"a\":{\"b\":[2,3]},\"c\":{}}]",
+    ),
+];
+
+/// The root twice in a list.
+fn written_twice(
+    document: &Document<'_>,
+    mut serializer: JsonSerializer<'_>,
+) -> Result<Vec<u8>, JsonSerializeError> {
+    serializer.begin_seq()?;
+    document.root().write(&mut serializer)?;
+    document.root().write(&mut serializer)?;
+    serializer.end_seq()?;
+    serializer.finish()
+}
+
+/// Whether the text of it is this, if memory suffices.
+pub fn is_written(alloc: Global, text: &str, wanted: &str) -> Option<bool> {
+    let document = Document::parse(alloc, text.as_bytes()).ok()?;
+    let written = written_twice(&document, JsonSerializer::new(alloc)).ok()?;
+    Some(written.as_slice() == wanted.as_bytes())
+}
+
+#[test]
+fn values_are_written(rt: HostRuntime) {
+    for (text, wanted) in &ROWS {
+        assert!(rt;
+            is_written(rt.alloc(), text, wanted) == Some(true),
+            "{text}"
+        );
+    }
+}
+
+/// Whether a member, laid out by these options, is this text.
+fn is_laid_out(alloc: Global, options: SerializeOptions<'_>, wanted: &str) -> Option<bool> {
+    let document = Document::parse(alloc, b"{\"a\":[{\"b\":[1,{}]}]}").ok()?;
+    let mut serializer = JsonSerializer::with_options(alloc, options);
+    document.root().get("a")?.write(&mut serializer).ok()?;
+    let written = serializer.finish().ok()?;
+    Some(written.as_slice() == wanted.as_bytes())
+}
+
+#[test]
+fn a_member_is_laid_out(rt: HostRuntime) {
+    let wanted = "[\n  {\n    \"b\": [\n      1,\n      {}\n    ]\n  }\n]";
+    let laid_out = is_laid_out(rt.alloc(), SerializeOptions::new().pretty(), wanted);
+    assert!(rt; laid_out == Some(true));
+}

@@ -1,0 +1,137 @@
+//! A document's value, written by a serializer's calls.
+
+ghost use Rattle.std.specs.Prelude.{◌≡◌, ◌<◌, suc, None, length, IfErr, OnOk, OnErr};
+ghost use Rattle.std.specs.Option.{unwrap_or};
+ghost use Rattle.facet_format.specs.Views.{scalar_value_of};
+ghost use Rattle.facet_json_core.specs.Told.{tree_of_scalar};
+ghost use Rattle.facet_json_document.specs.Tree.{list, pairs};
+ghost use Rattle.facet_json_layout.specs.Inner.Looking.{from};
+ghost use Rattle.facet_json_layout.specs.Nodes.{items, members, nothing, value_view};
+ghost use Rattle.facet_json_serializer.specs.Serializer.{out_of_memory};
+ghost use Rattle.facet_json_serializer.specs.Views.{write_refusal_of};
+ghost use Rattle.facet_json_tree.specs.Write.{HasWritten};
+
+use crate::document::node::Node;
+use crate::document::value::Value;
+use facet_format::{FormatSerializer, ScalarValue};
+use facet_json_serializer::{JsonSerializeError, JsonSerializer};
+use std::borrow::CowStr;
+
+impl<'d, 'i> Value<'d, 'i> {
+    /// Writes the value, where a value stands, in the layout of the serializer's options (RFC 8259, sections 2 to 7): what `write_tree` writes of its
+    /// tree, which is not made.
+    ///
+    /// Lists and objects are written by recursion, a level of the stack for each level of nesting, as by `write_tree`. Where a document comes from
+    /// strangers, `Document::parse_within` bounds its depth.
+    ///
+    /// ```text
+    /// of [1.50,{"a":"\u0062"}]: write(&mut serializer)        Ok
+    /// serializer.finish()                                      Ok: [1.50,{"a":"b"}]
+    /// ```
+    ///
+    /// # Errors
+    ///
+    /// `OutOfMemory` alone; the serializer is then out of memory for good.
+    pub fn write(&self, serializer: &mut JsonSerializer<'_>) -> Result<(), JsonSerializeError>
+        ensures written { OnOk result (HasWritten serializer.old (value_view self.now) serializer.new) }
+        ensures refused { IfErr result (λ e. write_refusal_of e ≡ out_of_memory) }
+        ensures spent { OnErr result (serializer.new ≡ None) }
+    {
+        write_value(serializer, self)
+    }
+}
+
+/// Writes a value.
+#[cycle(write)]
+fn write_value(
+    serializer: &mut JsonSerializer<'_>,
+    value: &Value<'_, '_>,
+) -> Result<(), JsonSerializeError>
+    ensures written { OnOk result (HasWritten serializer.old (value_view value.now) serializer.new) }
+    ensures refused { IfErr result (λ e. write_refusal_of e ≡ out_of_memory) }
+    ensures spent { OnErr result (serializer.new ≡ None) }
+{
+    let Some(node) = value.node(value.index) else {
+        return write_nothing(serializer);
+    };
+    match node {
+        Node::Leaf(scalar) => write_scalar(serializer, scalar),
+        Node::List(_) => write_items(serializer, value),
+        Node::Object(_) => write_members(serializer, value),
+        Node::Key(_) => write_nothing(serializer),
+        Node::End => write_nothing(serializer),
+    }
+}
+
+/// Writes a list, its items in order.
+#[cycle(write)]
+fn write_items(
+    serializer: &mut JsonSerializer<'_>,
+    value: &Value<'_, '_>,
+) -> Result<(), JsonSerializeError>
+    requires { value.now.index < length value.now.nodes.now }
+    ensures written { OnOk result (HasWritten serializer.old (list (items 0 (from value.now (suc value.now.index)))) serializer.new) }
+    ensures refused { IfErr result (λ e. write_refusal_of e ≡ out_of_memory) }
+    ensures spent { OnErr result (serializer.new ≡ None) }
+{
+    serializer.begin_seq()?;
+    let mut at = value.index + 1;
+    while let Some(next) = value.next_item(at) {
+        write_value(serializer, &Value::at(value.nodes, at))?;
+        at = next;
+    }
+    serializer.end_seq()
+}
+
+/// Writes an object, its members in order.
+#[cycle(write)]
+fn write_members(
+    serializer: &mut JsonSerializer<'_>,
+    value: &Value<'_, '_>,
+) -> Result<(), JsonSerializeError>
+    requires { value.now.index < length value.now.nodes.now }
+    ensures written { OnOk result (HasWritten serializer.old (pairs (members 0 (from value.now (suc value.now.index)))) serializer.new) }
+    ensures refused { IfErr result (λ e. write_refusal_of e ≡ out_of_memory) }
+    ensures spent { OnErr result (serializer.new ≡ None) }
+{
+    serializer.begin_struct()?;
+    let mut at = value.index + 1;
+    while let Some((key, next)) = value.member_there(at) {
+        serializer.field_key(key)?;
+        write_value(serializer, &Value::at(value.nodes, at + 1))?;
+        at = next;
+    }
+    serializer.end_struct()
+}
+
+/// Writes a value that holds no others.
+fn write_scalar(
+    serializer: &mut JsonSerializer<'_>,
+    value: &ScalarValue<'_>,
+) -> Result<(), JsonSerializeError>
+    ensures written { OnOk result (HasWritten serializer.old (unwrap_or (tree_of_scalar (scalar_value_of value.now)) nothing) serializer.new) }
+    ensures refused { IfErr result (λ e. write_refusal_of e ≡ out_of_memory) }
+    ensures spent { OnErr result (serializer.new ≡ None) }
+{
+    match value {
+        ScalarValue::Null => serializer.scalar(ScalarValue::Null),
+        ScalarValue::Unit => serializer.scalar(ScalarValue::Null),
+        ScalarValue::Bool(b) => serializer.scalar(ScalarValue::Bool(*b)),
+        ScalarValue::I64(n) => serializer.scalar(ScalarValue::I64(*n)),
+        ScalarValue::U64(n) => serializer.scalar(ScalarValue::U64(*n)),
+        ScalarValue::Decimal(decimal) => serializer.raw_scalar(decimal.as_str()),
+        ScalarValue::Str(text) => serializer.scalar(ScalarValue::Str(CowStr::Borrowed(
+            text.as_str(),
+        ))),
+        _ => write_nothing(serializer),
+    }
+}
+
+/// Writes what stands for a value where none begins, as none does in a document.
+fn write_nothing(serializer: &mut JsonSerializer<'_>) -> Result<(), JsonSerializeError>
+    ensures written { OnOk result (HasWritten serializer.old nothing serializer.new) }
+    ensures refused { IfErr result (λ e. write_refusal_of e ≡ out_of_memory) }
+    ensures spent { OnErr result (serializer.new ≡ None) }
+{
+    serializer.scalar(ScalarValue::Bytes(&[]))
+}
