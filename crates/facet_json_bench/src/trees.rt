@@ -3,7 +3,8 @@
 use crate::seen::{Seen, wide};
 use facet_json::scanner::Mode;
 use facet_json::{
-    Document, Tree, check, check_jsonc, to_vec, tree_from_slice, tree_from_slice_jsonc,
+    Document, JsonSerializer, Tree, check, check_jsonc, to_vec, tree_from_slice,
+    tree_from_slice_jsonc,
 };
 use std::alloc::Global;
 use std::hint::black_box;
@@ -23,13 +24,18 @@ pub fn tree(alloc: Global, input: &[u8], mode: Mode) -> Option<Seen> {
     Some(Seen::none().with(0))
 }
 
-/// The document is read into nodes, and they are dropped.
-pub fn document(alloc: Global, input: &[u8], mode: Mode) -> Option<Seen> {
+/// The document as nodes.
+pub fn document_of(alloc: Global, input: &[u8], mode: Mode) -> Option<Document<'_>> {
     let document = match mode {
         Mode::Plain => Document::parse(alloc, input),
         Mode::Jsonc => Document::parse_jsonc(alloc, input),
     };
-    let _document = black_box(document.ok()?);
+    document.ok()
+}
+
+/// The document is read into nodes, and they are dropped.
+pub fn document(alloc: Global, input: &[u8], mode: Mode) -> Option<Seen> {
+    let _document = black_box(document_of(alloc, input, mode)?);
     Some(Seen::none().with(0))
 }
 
@@ -46,5 +52,13 @@ pub fn checked(alloc: Global, input: &[u8], mode: Mode) -> Option<Seen> {
 /// The tree is written.
 pub fn text(alloc: Global, tree: &Tree) -> Option<Seen> {
     let text = black_box(to_vec(alloc, tree).ok()?);
+    Some(Seen::none().with(wide(text.len())))
+}
+
+/// The document of nodes is written.
+pub fn document_text(alloc: Global, document: &Document<'_>) -> Option<Seen> {
+    let mut serializer = JsonSerializer::new(alloc);
+    document.root().write(&mut serializer).ok()?;
+    let text = black_box(serializer.finish().ok()?);
     Some(Seen::none().with(wide(text.len())))
 }

@@ -5,9 +5,9 @@ use crate::derives::{List, Listed, Side, derive, derive_text, list_of};
 use crate::lines::log;
 use crate::passes::{events, scanned, skip, strict_events, strict_trusted, tokens, trusted};
 use crate::seen::Seen;
-use crate::trees::{checked, document, text, tree, tree_of};
-use facet_json::Tree;
+use crate::trees::{checked, document, document_of, document_text, text, tree, tree_of};
 use facet_json::scanner::Mode;
+use facet_json::{Document, Tree};
 use facet_json_examples::accounts::Account;
 use std::alloc::Global;
 
@@ -36,6 +36,8 @@ pub enum Work {
     Tree,
     /// A tree is written.
     Text,
+    /// A document of nodes is written.
+    DocumentText,
     /// A list of accounts is read and dropped.
     Typed,
     /// Whom to write to of a list of accounts is read and dropped.
@@ -51,7 +53,7 @@ pub enum Work {
 }
 
 /// The works that any document is passed by, and their names.
-pub const GENERAL: [(&str, Work); 9] = [
+pub const GENERAL: [(&str, Work); 10] = [
     ("tokens", Work::Tokens),
     ("scanner", Work::Scanner),
     ("skip", Work::Skip),
@@ -61,6 +63,7 @@ pub const GENERAL: [(&str, Work); 9] = [
     ("check", Work::Check),
     ("tree", Work::Tree),
     ("text", Work::Text),
+    ("document-text", Work::DocumentText),
 ];
 
 /// The work of this name.
@@ -75,6 +78,7 @@ pub fn work_of(name: &str) -> Option<Work> {
         "check" => Some(Work::Check),
         "tree" => Some(Work::Tree),
         "text" => Some(Work::Text),
+        "document-text" => Some(Work::DocumentText),
         "typed" => Some(Work::Typed),
         "typed-lent" => Some(Work::TypedLent),
         "typed-text" => Some(Work::TypedText),
@@ -126,6 +130,8 @@ pub struct Order<'i> {
     pub input: &'i str,
     /// Its tree, where that is to be written.
     pub tree: Option<Tree>,
+    /// Its nodes, where these are to be written.
+    pub document: Option<Document<'i>>,
     /// Its accounts, where these are to be written.
     pub accounts: Option<Vec<Account>>,
     /// Its items of a type with serde's derives, where these are to be written.
@@ -137,6 +143,10 @@ impl<'i> Order<'i> {
     pub fn new(alloc: Global, work: Work, mode: Mode, input: &'i str) -> Order<'i> {
         let tree = match work {
             Work::Text => tree_of(alloc, input.as_bytes(), mode),
+            _ => None,
+        };
+        let document = match work {
+            Work::DocumentText => document_of(alloc, input.as_bytes(), mode),
             _ => None,
         };
         let accounts = match work {
@@ -152,6 +162,7 @@ impl<'i> Order<'i> {
             mode,
             input,
             tree,
+            document,
             accounts,
             list,
         }
@@ -176,6 +187,10 @@ impl<'i> Order<'i> {
             Work::Log => log(alloc, input),
             Work::Text => match &self.tree {
                 Some(tree) => text(alloc, tree),
+                None => None,
+            },
+            Work::DocumentText => match &self.document {
+                Some(document) => document_text(alloc, document),
                 None => None,
             },
             Work::TypedText => match &self.accounts {
