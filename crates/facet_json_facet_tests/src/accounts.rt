@@ -55,48 +55,35 @@ fn is_account(alloc: Global, input: &str, score: i32, age: u8) -> bool {
     }
 }
 
+/// An account in the order of its fields.
+const IN_ORDER: &str =
+    "{\"id\":7,\"name\":\"Ann\",\"email\":\"a@b.example\",\"active\":true,\"age\":40,\"score\":-3,\"visits\":12,\"tags\":[]}";
+
+/// One in another order, with a field that comes twice, an unknown one, an escape and a comma too many.
+const IN_DISORDER: &str =
+    "{\"tags\":[],\"parent\":null,\"x\":{\"id\":8},\"city\":null,\"visits\":12,\"score\":2147483647,\"age\":1,\"age\":2,\"active\":true,\"email\":\"a@b.example\",\"name\":\"\\u0041nn\",\"id\":7,}";
+
 #[test]
 fn ten_fields_are_read(rt: HostRuntime) {
     let alloc = rt.alloc();
-    assert!(rt;
-        is_account(
-            alloc,
-            "{\"id\":7,\"name\":\"Ann\",\"email\":\"a@b.example\",\"active\":true,\"age\":40,\"score\":-3,\"visits\":12,\"tags\":[]}",
-            -3,
-            40
-        )
-    );
-    assert!(rt;
-        is_account(
-            alloc,
-            "{\"tags\":[],\"parent\":null,\"x\":{\"id\":8},\"city\":null,\"visits\":12,\"score\":2147483647,\"age\":1,\"age\":2,\"active\":true,\"email\":\"a@b.example\",\"name\":\"\\u0041nn\",\"id\":7,}",
-            2147483647,
-            2
-        )
-    );
+    assert!(rt; is_account(alloc, IN_ORDER, -3, 40));
+    assert!(rt; is_account(alloc, IN_DISORDER, 2147483647, 2));
 }
+
+/// An account with each field, as it is written.
+const WHOLE: &str =
+    "{\"id\":7,\"name\":\"Ann\",\"email\":\"\",\"active\":false,\"age\":0,\"score\":-2147483648,\"visits\":0,\"city\":\"Rome\",\"tags\":[\"a\",\"b\"],\"parent\":18446744073709551615}";
 
 #[test]
 fn ten_fields_come_back(rt: HostRuntime) {
-    let alloc = rt.alloc();
-    assert!(rt;
-        comes_back::<Account>(
-            alloc,
-            "{\"id\":7,\"name\":\"Ann\",\"email\":\"\",\"active\":false,\"age\":0,\"score\":-2147483648,\"visits\":0,\"city\":\"Rome\",\"tags\":[\"a\",\"b\"],\"parent\":18446744073709551615}"
-        )
-    );
+    assert!(rt; comes_back::<Account>(rt.alloc(), WHOLE));
 }
 
 #[test]
 fn ten_fields_are_refused(rt: HostRuntime) {
     let alloc = rt.alloc();
-    assert!(rt;
-        refuses::<Account>(
-            alloc,
-            "{\"id\":7,\"name\":\"Ann\",\"active\":true,\"age\":40}",
-            DeserializeErrorKind::MissingField { field: "email" },
-            Span::new(43, 1)
-        )
-    );
+    let no_email = DeserializeErrorKind::MissingField { field: "email" };
+    let text = "{\"id\":7,\"name\":\"Ann\",\"active\":true,\"age\":40}";
+    assert!(rt; refuses::<Account>(alloc, text, no_email, Span::new(43, 1)));
     assert!(rt; refuses::<Account>(alloc, "{\"age\":300}", out_of_range("u8"), Span::new(7, 3)));
 }

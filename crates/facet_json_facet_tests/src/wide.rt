@@ -31,13 +31,22 @@ fn numbers_within_64_bits_are_read_and_written(rt: HostRuntime) {
     assert!(rt; refuses::<u128>(alloc, "-1", out_of_range("u128"), Span::new(0, 2)));
 }
 
+/// Texts of digits, and the numbers that they are.
+static DIGITS: [(&str, i128); 4] = [
+    ("\"5\"", 5),
+    ("\"\\u0035\"", 5),
+    ("\"-5\"", -5),
+    ("\"0\"", 0),
+];
+
 #[test]
 fn texts_of_digits_are_numbers(rt: HostRuntime) {
-    let alloc = rt.alloc();
-    assert!(rt; reads(alloc, "\"5\"", &5_u128));
-    assert!(rt; reads(alloc, "\"\\u0035\"", &5_u128));
-    assert!(rt; reads(alloc, "\"-5\"", &-5_i128));
-    assert!(rt; reads(alloc, "\"0\"", &0_i128));
+    for (text, number) in &DIGITS {
+        assert!(rt; reads(rt.alloc(), text, number), "{text}");
+        if let Ok(unsigned) = u128::try_from(*number) {
+            assert!(rt; reads(rt.alloc(), text, &unsigned), "{text}");
+        }
+    }
 }
 
 /// Whether the input is no number of the type of this name, and is told to be this instead.
@@ -50,15 +59,25 @@ fn is_other<'de, T: Facet<'de>>(alloc: Global, input: &'de str, expected: &str, 
     )
 }
 
+/// What is no number of 128 bits with a sign, and the name of its event.
+static NOT_SIGNED: [(&str, &str); 3] = [
+    ("\"-0\"", "string"),
+    ("170141183460469231731687303715884105728", "string"),
+    ("1e3", "decimal"),
+];
+
+/// Texts that are no number without one.
+static NOT_UNSIGNED: [&str; 4] = ["\"05\"", "\"+5\"", "\"-5\"", "\"\""];
+
 #[test]
 fn other_texts_are_no_numbers(rt: HostRuntime) {
-    let alloc = rt.alloc();
-    assert!(rt; is_other::<u128>(alloc, "\"05\"", "u128", "string"));
-    assert!(rt; is_other::<u128>(alloc, "\"+5\"", "u128", "string"));
-    assert!(rt; is_other::<u128>(alloc, "\"-5\"", "u128", "string"));
-    assert!(rt; is_other::<u128>(alloc, "\"\"", "u128", "string"));
-    assert!(rt; is_other::<i128>(alloc, "\"-0\"", "i128", "string"));
-    let past = "170141183460469231731687303715884105728";
-    assert!(rt; is_other::<i128>(alloc, past, "i128", "string"));
-    assert!(rt; is_other::<i128>(alloc, "1e3", "i128", "decimal"));
+    for text in &NOT_UNSIGNED {
+        assert!(rt;
+            is_other::<u128>(rt.alloc(), text, "u128", "string"),
+            "{text}"
+        );
+    }
+    for (text, event) in &NOT_SIGNED {
+        assert!(rt; is_other::<i128>(rt.alloc(), text, "i128", event), "{text}");
+    }
 }
