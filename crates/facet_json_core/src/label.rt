@@ -1,6 +1,6 @@
 //! What is said beside the bytes that an error is about.
 
-ghost use Rattle.std.specs.Prelude.{◌≡◌, IfOk, string_bytes};
+ghost use Rattle.std.specs.Prelude.{◌≡◌, ◌++◌, IfOk, string_bytes, codes};
 ghost use Rattle.facet_format.specs.Views.{complaint_of};
 ghost use Rattle.facet_json_serializer.specs.Views.{write_refusal_of};
 ghost use Rattle.facet_json_core.specs.ErrorKind.{label, read_label, scan, scan_with_context, write};
@@ -29,31 +29,25 @@ impl JsonErrorKind {
                 error,
                 expected_type,
             } => context_label(alloc, error, expected_type),
-            JsonErrorKind::UnexpectedToken { got, expected } => {
-                format!(in alloc; "expected {expected}, got '{got}'")
-            }
-            JsonErrorKind::UnexpectedEof { expected } => format!(in alloc; "expected {expected}"),
-            JsonErrorKind::TypeMismatch { expected, got } => {
-                format!(in alloc; "expected {expected}, got {got}")
-            }
+            JsonErrorKind::UnexpectedToken { got, expected } => other_token(alloc, expected, got),
+            JsonErrorKind::UnexpectedEof { expected } => named(alloc, "expected ", expected),
+            JsonErrorKind::TypeMismatch { expected, got } => other_type(alloc, expected, got),
             JsonErrorKind::UnknownField {
                 field,
                 suggestion: None,
                 ..
-            } => format!(in alloc; "unknown field '{field}'"),
+            } => quoted(alloc, "unknown field '", field),
             JsonErrorKind::UnknownField {
                 field,
                 suggestion: Some(name),
                 ..
             } => format!(in alloc; "unknown field '{field}' - did you mean '{name}'?"),
-            JsonErrorKind::MissingField { field, .. } => {
-                format!(in alloc; "missing field '{field}'")
-            }
+            JsonErrorKind::MissingField { field, .. } => quoted(alloc, "missing field '", field),
             JsonErrorKind::InvalidValue { .. } => String::from_str(alloc, "invalid value"),
             JsonErrorKind::NumberOutOfRange { target_type, .. } => {
-                format!(in alloc; "out of range for {target_type}")
+                named(alloc, "out of range for ", target_type)
             }
-            JsonErrorKind::DuplicateKey { key } => format!(in alloc; "duplicate key '{key}'"),
+            JsonErrorKind::DuplicateKey { key } => quoted(alloc, "duplicate key '", key),
             JsonErrorKind::InvalidUtf8 => String::from_str(alloc, "invalid UTF-8"),
             JsonErrorKind::Solver(_) => String::from_str(alloc, "solver error"),
             JsonErrorKind::Io(_) => String::from_str(alloc, "I/O error"),
@@ -64,6 +58,35 @@ impl JsonErrorKind {
     }
 }
 
+/// What is said, and of what.
+fn named(alloc: Global, said: &str, of: &str) -> Result<String, AllocError>
+    ensures { IfOk result (λ text. string_bytes text ≡ said.now ++ of.now) }
+{
+    format!(in alloc; "{said}{of}")
+}
+
+/// The same, where it is of a name, with a quote behind it.
+fn quoted(alloc: Global, said: &str, name: &str) -> Result<String, AllocError>
+    ensures { IfOk result (λ text. string_bytes text ≡ said.now ++ name.now ++ codes "'") }
+{
+    format!(in alloc; "{said}{name}'")
+}
+
+/// That another token stands there.
+fn other_token(alloc: Global, expected: &str, got: &str) -> Result<String, AllocError>
+    ensures { IfOk result (λ text. string_bytes text
+        ≡ codes "expected " ++ expected.now ++ (codes ", got '" ++ got.now ++ codes "'")) }
+{
+    format!(in alloc; "expected {expected}, got '{got}'")
+}
+
+/// That a value of another type stands there.
+fn other_type(alloc: Global, expected: &str, got: &str) -> Result<String, AllocError>
+    ensures { IfOk result (λ text. string_bytes text ≡ codes "expected " ++ expected.now ++ (codes ", got " ++ got.now)) }
+{
+    format!(in alloc; "expected {expected}, got {got}")
+}
+
 /// The label of what is wrong where no token stands.
 fn scan_label(alloc: Global, error: &ScanErrorKind) -> Result<String, AllocError>
     ensures { IfOk result (λ text. string_bytes text ≡ label (scan (scan_of error.now))) }
@@ -72,9 +95,7 @@ fn scan_label(alloc: Global, error: &ScanErrorKind) -> Result<String, AllocError
         ScanErrorKind::UnexpectedChar(character) => {
             format!(in alloc; "unexpected '{character}'")
         }
-        ScanErrorKind::UnexpectedEof(place) => {
-            format!(in alloc; "unexpected end of input {place}")
-        }
+        ScanErrorKind::UnexpectedEof(place) => { named(alloc, "unexpected end of input ", place) }
         ScanErrorKind::InvalidUtf8 => String::from_str(alloc, "invalid UTF-8 here"),
     }
 }
@@ -93,7 +114,7 @@ fn context_label(
             format!(in alloc; "unexpected '{character}', expected {expected_type}")
         }
         ScanErrorKind::UnexpectedEof(_) => {
-            format!(in alloc; "unexpected end of input, expected {expected_type}")
+            named(alloc, "unexpected end of input, expected ", expected_type)
         }
         ScanErrorKind::InvalidUtf8 => String::from_str(alloc, "invalid UTF-8 here"),
     }
@@ -108,29 +129,25 @@ fn label_of_read(
 {
     match refused {
         DeserializeErrorKind::UnexpectedChar { expected, .. } => {
-            format!(in alloc; "expected {expected}")
+            named(alloc, "expected ", expected)
         }
         DeserializeErrorKind::UnexpectedEof { expected } => {
             if tells_where(expected) {
-                format!(in alloc; "unexpected end of input {expected}")
+                named(alloc, "unexpected end of input ", expected)
             } else {
-                format!(in alloc; "unexpected end of input, expected {expected}")
+                named(alloc, "unexpected end of input, expected ", expected)
             }
         }
         DeserializeErrorKind::UnexpectedToken { got, expected } => {
-            format!(in alloc; "expected {expected}, got '{got}'")
+            other_token(alloc, expected, got)
         }
         DeserializeErrorKind::InvalidUtf8 => String::from_str(alloc, "invalid UTF-8"),
         DeserializeErrorKind::InvalidValue { .. } => String::from_str(alloc, "invalid value"),
-        DeserializeErrorKind::TypeMismatch { expected, got } => {
-            format!(in alloc; "expected {expected}, got {got}")
-        }
+        DeserializeErrorKind::TypeMismatch { expected, got } => { other_type(alloc, expected, got) }
         DeserializeErrorKind::NumberOutOfRange { target_type } => {
-            format!(in alloc; "out of range for {target_type}")
+            named(alloc, "out of range for ", target_type)
         }
-        DeserializeErrorKind::MissingField { field } => {
-            format!(in alloc; "missing field '{field}'")
-        }
+        DeserializeErrorKind::MissingField { field } => { quoted(alloc, "missing field '", field) }
         DeserializeErrorKind::OutOfMemory => String::from_str(alloc, "out of memory"),
         DeserializeErrorKind::SaveLimit => String::from_str(alloc, "too many save points"),
     }

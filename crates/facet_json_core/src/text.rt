@@ -1,6 +1,6 @@
 //! Messages: how kinds and errors are displayed.
 
-ghost use Rattle.std.specs.Prelude.{◌≡◌, map, Some};
+ghost use Rattle.std.specs.Prelude.{◌≡◌, ◌++◌, map, Some, codes};
 ghost use Rattle.std.specs.Fmt.{◌++?◌, DisplaysOnOk};
 ghost use Rattle.facet_format.specs.Views.{complaint_of};
 ghost use Rattle.facet_json_core.specs.ErrorKind as table;
@@ -24,13 +24,13 @@ impl fmt::Display for JsonErrorKind {
                 expected_type,
             } => write!(f, "{error:?} (while parsing {expected_type})"),
             JsonErrorKind::UnexpectedToken { got, expected } => {
-                write!(f, "unexpected token: got {got}, expected {expected}")
+                write_pair(f, "unexpected token: got ", got, ", expected ", expected)
             }
             JsonErrorKind::UnexpectedEof { expected } => {
-                write!(f, "unexpected end of input, expected {expected}")
+                write_named(f, "unexpected end of input, expected ", expected)
             }
             JsonErrorKind::TypeMismatch { expected, got } => {
-                write!(f, "type mismatch: expected {expected}, got {got}")
+                write_pair(f, "type mismatch: expected ", expected, ", got ", got)
             }
             JsonErrorKind::UnknownField {
                 field,
@@ -43,21 +43,49 @@ impl fmt::Display for JsonErrorKind {
                 suggestion: Some(name),
             } => write_suggestion(f, field, expected, name),
             JsonErrorKind::MissingField { field, .. } => {
-                write!(f, "missing required field `{field}`")
+                write_quoted(f, "missing required field `", field)
             }
-            JsonErrorKind::InvalidValue { message } => write!(f, "invalid value: {message}"),
+            JsonErrorKind::InvalidValue { message } => write_named(f, "invalid value: ", message),
             JsonErrorKind::NumberOutOfRange { value, target_type } => {
-                write!(f, "number `{value}` out of range for {target_type}")
+                write_pair(f, "number `", value, "` out of range for ", target_type)
             }
-            JsonErrorKind::DuplicateKey { key } => write!(f, "duplicate key `{key}`"),
+            JsonErrorKind::DuplicateKey { key } => write_quoted(f, "duplicate key `", key),
             JsonErrorKind::InvalidUtf8 => f.write_str("invalid UTF-8 sequence"),
-            JsonErrorKind::Solver(message) => write!(f, "solver error: {message}"),
-            JsonErrorKind::Io(message) => write!(f, "I/O error: {message}"),
+            JsonErrorKind::Solver(message) => write_named(f, "solver error: ", message),
+            JsonErrorKind::Io(message) => write_named(f, "I/O error: ", message),
             JsonErrorKind::Read(refused) => write_read(f, refused),
             JsonErrorKind::Write(refused) => write!(f, "{refused}"),
             JsonErrorKind::OutOfMemory => f.write_str("out of memory"),
         }
     }
+}
+
+/// What is said, and of what.
+fn write_named<W: fmt::Write>(f: &mut fmt::Formatter<W>, said: &str, of: &str) -> fmt::Result
+    ensures { DisplaysOnOk W.write_str_gives f.old result (Some (said.now ++ of.now)) f.new }
+{
+    write!(f, "{said}{of}")
+}
+
+/// The same, where it is of a name, with a quote behind it.
+fn write_quoted<W: fmt::Write>(f: &mut fmt::Formatter<W>, said: &str, name: &str) -> fmt::Result
+    ensures { DisplaysOnOk W.write_str_gives f.old result (Some (said.now ++ name.now ++ codes "`")) f.new }
+{
+    write!(f, "{said}{name}`")
+}
+
+/// The same of two texts, with what stands between them.
+fn write_pair<W: fmt::Write>(
+    f: &mut fmt::Formatter<W>,
+    said: &str,
+    first: &str,
+    between: &str,
+    second: &str,
+) -> fmt::Result
+    ensures { DisplaysOnOk W.write_str_gives f.old result
+        (Some (said.now ++ first.now ++ (between.now ++ second.now))) f.new }
+{
+    write!(f, "{said}{first}{between}{second}")
 }
 
 /// The message of a field that the type does not have, with the fields that it has.
@@ -100,18 +128,20 @@ fn write_read<W: fmt::Write>(
         }
         DeserializeErrorKind::UnexpectedEof { expected } => write_end(f, expected),
         DeserializeErrorKind::UnexpectedToken { got, expected } => {
-            write!(f, "unexpected token: got {got}, expected {expected}")
+            write_pair(f, "unexpected token: got ", got, ", expected ", expected)
         }
         DeserializeErrorKind::InvalidUtf8 => f.write_str("invalid UTF-8 sequence"),
-        DeserializeErrorKind::InvalidValue { message } => write!(f, "invalid value: {message}"),
+        DeserializeErrorKind::InvalidValue { message } => {
+            write_named(f, "invalid value: ", message)
+        }
         DeserializeErrorKind::TypeMismatch { expected, got } => {
-            write!(f, "type mismatch: expected {expected}, got {got}")
+            write_pair(f, "type mismatch: expected ", expected, ", got ", got)
         }
         DeserializeErrorKind::NumberOutOfRange { target_type } => {
-            write!(f, "number out of range for {target_type}")
+            write_named(f, "number out of range for ", target_type)
         }
         DeserializeErrorKind::MissingField { field } => {
-            write!(f, "missing required field `{field}`")
+            write_quoted(f, "missing required field `", field)
         }
         DeserializeErrorKind::OutOfMemory => f.write_str("out of memory"),
         DeserializeErrorKind::SaveLimit => f.write_str("too many save points"),
