@@ -2,7 +2,6 @@ pub mod CallsInOrder
 pub mod Cuts
 pub mod DocumentFromRoot
 pub mod DocumentPassed
-pub mod Lines
 pub mod Meaning
 pub mod Misplaced
 pub mod Names

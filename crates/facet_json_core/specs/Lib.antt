@@ -28,11 +28,9 @@ pub use Rattle.facet_json_document.specs.SkipLaws
 pub use Rattle.facet_json_document.specs.Headline
 pub mod ErrorKind
 pub mod ErrorViews
-pub mod Line
 pub mod Meaning
 pub mod Reading
 pub mod Refusing
-pub mod Report
 pub mod ScriptViews
 pub mod Told
 pub mod Transcode

@@ -8,8 +8,6 @@ mod error;
 mod kind;
 mod label;
 pub mod laws;
-mod line;
-mod place;
 mod raw;
 mod refusals;
 mod report;
@@ -20,14 +18,12 @@ mod value;
 
 pub use error::{JsonError, Result};
 pub use facet_format::{FormatParser, FormatSerializer};
-pub use facet_json_parser::JsonParser;
+pub use facet_json_parser::{JsonParser, Place, Position, position_at};
 pub use facet_json_reader::{MaterializedToken, TokenKind};
 pub use facet_json_serializer::{
     BytesFormat, HexBytesOptions, JsonSerializeError, JsonSerializer, SerializeOptions,
 };
 pub use kind::JsonErrorKind;
-pub use line::{Position, position_at};
-pub use place::Place;
 pub use raw::RawJson;
 pub use report::Report;
 pub use script::{Answer, Call, drive};

@@ -2,6 +2,7 @@ pub mod AnswersAreMoves
 pub mod EventsInBatch
 pub mod FirstParts
 pub mod KeptSpots
+pub mod Lines
 pub mod MarksAreCut
 pub mod OpenedContainers
 pub mod ParserWithin

@@ -3,13 +3,14 @@
 ghost use Rattle.std.specs.Prelude.{◌≡◌, length};
 ghost use Rattle.std.specs.Option.{option_map};
 ghost use Rattle.facet_format.specs.Views.{span_of};
-ghost use Rattle.facet_json_core.specs.Report.{report_text};
+ghost use Rattle.facet_json_parser.specs.Report.{report_text};
 ghost use Rattle.facet_json_serde.specs.Messages.{kind_message};
 ghost use Rattle.facet_json_serde.specs.Within.{LiesWithin};
 
 use crate::fault::{Detail, ReadFault, ReadFaultKind, Refusal, Sort, WriteFault};
 use facet_format::{DeserializeErrorKind, ParseError, Span};
-use facet_json_core::{JsonErrorKind, Place};
+use facet_json_parser::Place;
+use facet_json_parser::message::write_message;
 use std::fmt;
 
 /// What is wrong. Displayed, it is a message of one line for a person.
@@ -179,7 +180,7 @@ impl fmt::Display for ErrorKind<'static> {
 
     fn fmt<W: fmt::Write>(&self, f: &mut fmt::Formatter<W>) -> fmt::Result {
         match self {
-            ErrorKind::Read(refused) => write!(f, "{}", JsonErrorKind::Read(*refused)),
+            ErrorKind::Read(refused) => write_message(f, refused),
             ErrorKind::TrailingCharacters => f.write_str("trailing characters"),
             ErrorKind::MissingField(name) => {
                 write!(f, "missing required field `{}`", name.as_str())
