@@ -47,7 +47,7 @@ use std::alloc::{AllocError, Global};
 ///
 /// Reading recurses once for each array or object within another (RFC 8259, section 9, lets a reader limit their depth; this one
 /// sets none), and a program that runs out of the machine's stack ends at once. As measured and not as promised, a stack of 8 MiB
-/// held 15,300 containers and one of 2 MiB 3,800, at about 550 bytes each, and what the caller has on it comes off that. Where bytes
+/// held 16,000 containers and one of 2 MiB 4,000, at about 520 bytes each, and what the caller has on it comes off that. Where bytes
 /// come from strangers, use [`tree_from_slice_within`](crate::tree_from_slice_within), or `transcode`, which does not recurse.
 ///
 /// # Errors

@@ -22,7 +22,7 @@ use std::alloc::Global;
 /// Reads the plain document that the bytes begin with, as `tree_from_slice` does, where it nests no deeper than `depth`: an array or
 /// object counts one, and one within it counts one more (RFC 8259, section 9, lets a reader limit their depth). A scalar has depth 0.
 ///
-/// Reading recurses once for each container around another, so `depth` bounds the stack that it takes, at about 550 bytes each, as
+/// Reading recurses once for each container around another, so `depth` bounds the stack that it takes, at about 520 bytes each, as
 /// measured and not as promised.
 ///
 /// ```text
