@@ -316,6 +316,7 @@ impl<'de> Json<'de> {
     }
 
     /// Takes the event that is ahead, or keeps the mark to which it returned before it reads one.
+    #[inline(never)]
     #[tactic(auto, using(crate::proofs::StepsRead::kept_passes))]
     fn take_ahead(&mut self) -> Result<Came<'de>, ReadFault>
         ensures passes { IfOk result (λ e. StepPasses self.old (event_of e.0) self.new) }
@@ -420,7 +421,7 @@ impl<'de> Json<'de> {
     }
 
     /// A key without an escape, or the end of the map, where a few bytes decide that one of them comes. Else nothing changes.
-    #[inline(never)]
+    #[inline(always)]
     fn member(&mut self) -> Option<Member<'de>>
         ensures { MatchOption result (self.new ≡ self.old)
             (λ m. StepPasses self.old (record { kind = event_of_member m; span = span_of self.new.last }) self.new × (self.new.ahead ≡ Ahead.Nothing)) }
@@ -442,6 +443,7 @@ impl<'de> Json<'de> {
     }
 
     /// The same by an event.
+    #[cold]
     #[inline(never)]
     fn key_slowly(&mut self) -> Result<Option<CowStr<'de>>, ReadFault>
         ensures { IfOk result (λ o. MatchOption o (StepGives self.old [] map_ends self.new)
@@ -532,6 +534,7 @@ impl<'de> Json<'de> {
     }
 
     /// Keeps where it stands as the last mark.
+    #[inline(always)]
     fn keep_here(&mut self) -> Result<(), ReadFault>
         ensures { OnOk result ((self.new.parser ≡ with_kept self.old.parser) × (self.new.ahead ≡ self.old.ahead)) }
     {
@@ -574,6 +577,7 @@ impl<'de> Json<'de> {
     }
 
     /// Goes back to the last mark.
+    #[inline(always)]
     pub(crate) fn go_back(&mut self) {
         if let Ahead::Back = &self.ahead {
             return;
