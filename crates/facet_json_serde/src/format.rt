@@ -352,6 +352,7 @@ impl<'de> Format for Json<'de> {
         Ok(())
     }
 
+    #[inline(always)]
     fn mark(&mut self) -> usize {
         let mark = self.marks();
         if !self.has_stopped() {

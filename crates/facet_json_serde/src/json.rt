@@ -316,7 +316,6 @@ impl<'de> Json<'de> {
     }
 
     /// Takes the event that is ahead, or keeps the mark to which it returned before it reads one.
-    #[inline(never)]
     #[tactic(auto, using(crate::proofs::StepsRead::kept_passes))]
     fn take_ahead(&mut self) -> Result<Came<'de>, ReadFault>
         ensures passes { IfOk result (λ e. StepPasses self.old (event_of e.0) self.new) }
@@ -559,6 +558,7 @@ impl<'de> Json<'de> {
     }
 
     /// Keeps where it stands as the last mark, or stops where there is no memory for it.
+    #[inline(always)]
     pub(crate) fn keep(&mut self) {
         let is_ready = match &self.ahead {
             Ahead::Back => self.keep_again().is_ok(),
@@ -577,7 +577,6 @@ impl<'de> Json<'de> {
     }
 
     /// Goes back to the last mark.
-    #[inline(always)]
     pub(crate) fn go_back(&mut self) {
         if let Ahead::Back = &self.ahead {
             return;
