@@ -1,4 +1,6 @@
 pub mod AnswersAreMoves
+pub mod Bits
+pub mod BlockBits
 pub mod EventsInBatch
 pub mod FirstParts
 pub mod KeptSpots

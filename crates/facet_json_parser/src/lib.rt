@@ -3,6 +3,7 @@
 //! What it refuses is told to a person by a message and by its place in the source.
 #![tactic(auto)]
 
+mod block;
 mod line;
 mod lookahead;
 pub mod message;
