@@ -9,6 +9,8 @@ pub mod MarksAreCut
 pub mod OpenedContainers
 pub mod ParserWithin
 pub mod PartsArePassed
+pub mod PassedBlocks
+pub mod PassedBytes
 pub mod PassedParts
 pub mod PointsByPlace
 pub mod QuietTokens

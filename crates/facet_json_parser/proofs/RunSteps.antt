@@ -23,44 +23,25 @@ use Rattle.facet_json_document.proofs.Runs.PassedRuns.{is-outcome}
 use Rattle.facet_json_reader.proofs.CutsAtPlaces.{IsCut, ends, stands, is_cut, Refuses, is_refused}
 use Rattle.facet_json_parser.specs.RunViews.{EndsRun, IsRunRefused, breaks_off, without_memory, value_expected}
 
+pub use Rattle.facet_json_parser.specs.Inner.Leads.{goes_on, first_token, run_tokens, whole, LeadsTo}
+
 module _ (buffer : List ℕ) (mode : Mode) where
-  -- what follows where these brackets are open, and this was the last token
-  abbrev pub goes_on : List ContainerKind → Token → Outcome
-  goes_on stack last = passed buffer stack last (tokens_from buffer mode (stop last.span))
-
-  -- the token that opens the run
-  abbrev pub first_token : ContainerKind → Span → Token
-  first_token kind s = record { kind = opening kind; span = s }
-
-  -- the run's outcome
-  abbrev pub whole : ContainerKind → Span → Outcome
-  whole kind first = goes_on (kind ∷ []) (first_token kind first)
-
-  -- Where these brackets are open after a token that takes these bytes, the same outcome follows.
-  pub record LeadsTo (stack : List ContainerKind) (s : Span) (o : Outcome) : Type 0 where
-    pub kind : Kind
-    pub same : goes_on stack (record { kind = kind; span = s }) ≡ o
-
   pub leads-first : (stack : List ContainerKind) (kind : ContainerKind) (first : Span) → stack ≡ kind ∷ [] →
-      LeadsTo stack first (whole kind first)
+      LeadsTo buffer mode stack first (whole buffer mode kind first)
   leads-first stack kind first e =
-      record { kind = opening kind; same = ap (λ brackets. goes_on brackets (first_token kind first)) e }
+      record { kind = opening kind; same = ap (λ brackets. goes_on buffer mode brackets (first_token buffer mode kind first)) e }
 
   -- ---- the end
 
-  -- the run's first token, and the others
-  abbrev pub run_tokens : ContainerKind → Span → Tokens
-  run_tokens kind first = next (first_token kind first) (tokens_from buffer mode (stop first))
-
   -- Where no bracket is open any more, the run has ended.
   pub leads-ends : (stack : List ContainerKind) (kind : ContainerKind) (first s : Span) → stack ≡ [] →
-      LeadsTo stack s (whole kind first) → EndsRun buffer mode (run_tokens kind first) s
+      LeadsTo buffer mode stack s (whole buffer mode kind first) → EndsRun buffer mode (run_tokens buffer mode kind first) s
   unfolding passed
   leads-ends stack kind first s e l =
       let last : Token = record { kind = l.kind; span = s } in
-      let here : closes last (tokens_from buffer mode (stop s)) ≡ whole kind first =
-      sym (ap (λ brackets. goes_on brackets last) e) ∙ l.same in
-      record { last = last; is_last = refl; run = rw (← here) at (is-outcome buffer kind (first_token kind first) (tokens_from buffer mode (stop first)) refl) }
+      let here : closes last (tokens_from buffer mode (stop s)) ≡ whole buffer mode kind first =
+      sym (ap (λ brackets. goes_on buffer mode brackets last) e) ∙ l.same in
+      record { last = last; is_last = refl; run = rw (← here) at (is-outcome buffer kind (first_token buffer mode kind first) (tokens_from buffer mode (stop first)) refl) }
 
   -- A scalar ends its own run.
   pub scalar-ends : (kind : Kind) (s : Span) → is_scalar kind ≡ true →
@@ -74,27 +55,27 @@ module _ (buffer : List ℕ) (mode : Mode) where
   -- ---- refusals
 
   pub unopened : (kind : ContainerKind) (first last : Span) (refusal : Refusal) → refusal ≡ no_memory_at last →
-      IsRunRefused buffer last (run_tokens kind first) refusal
-  unopened kind first last refusal e = rw e (without_memory kind (first_token kind first) (tokens_from buffer mode (stop first)) refl)
+      IsRunRefused buffer last (run_tokens buffer mode kind first) refusal
+  unopened kind first last refusal e = rw e (without_memory kind (first_token buffer mode kind first) (tokens_from buffer mode (stop first)) refl)
 
   -- Where all is stopped, the run breaks off.
-  stopped : (kind : ContainerKind) (first last : Span) (refusal : Refusal) → stops refusal ≡ whole kind first →
-      IsRunRefused buffer last (run_tokens kind first) refusal
+  stopped : (kind : ContainerKind) (first last : Span) (refusal : Refusal) → stops refusal ≡ whole buffer mode kind first →
+      IsRunRefused buffer last (run_tokens buffer mode kind first) refusal
   stopped kind first last refusal e =
-      breaks_off (run_tokens kind first) refusal (rw (← e) at (is-outcome buffer kind (first_token kind first) (tokens_from buffer mode (stop first)) refl))
+      breaks_off (run_tokens buffer mode kind first) refusal (rw (← e) at (is-outcome buffer kind (first_token buffer mode kind first) (tokens_from buffer mode (stop first)) refl))
 
   module _ (kind : ContainerKind) (first last : Span) (innermost : ContainerKind) (around stack : List ContainerKind) (s : Span)
-      (is_stack : stack ≡ innermost ∷ around) (l : LeadsTo stack s (whole kind first)) where
+      (is_stack : stack ≡ innermost ∷ around) (l : LeadsTo buffer mode stack s (whole buffer mode kind first)) where
     -- what follows, by the tokens that do
     by_tokens : (ts : Tokens) → tokens_from buffer mode (stop s) ≡ ts →
-        passed buffer (innermost ∷ around) (record { kind = l.kind; span = s }) ts ≡ whole kind first
+        passed buffer (innermost ∷ around) (record { kind = l.kind; span = s }) ts ≡ whole buffer mode kind first
     by_tokens ts e =
         ap (passed buffer (innermost ∷ around) (record { kind = l.kind; span = s })) (sym e)
-        ∙ ap (λ brackets. goes_on brackets (record { kind = l.kind; span = s })) (sym is_stack) ∙ l.same
+        ∙ ap (λ brackets. goes_on buffer mode brackets (record { kind = l.kind; span = s })) (sym is_stack) ∙ l.same
 
     -- A fault breaks the run off.
     pub fault-stops : (e : Fault) (refusal : Refusal) → stop s ≤ length buffer → cut_of (Err e) ≡ Some (cut buffer (stop s) mode) →
-        refusal ≡ told_refusal e → IsRunRefused buffer last (run_tokens kind first) refusal
+        refusal ≡ told_refusal e → IsRunRefused buffer last (run_tokens buffer mode kind first) refusal
     unfolding passed
     fault-stops e refusal within h p =
         let f : Refuses buffer (stop s) (lenient mode) e = is_refused buffer (stop s) (lenient mode) e within h in
@@ -102,7 +83,7 @@ module _ (buffer : List ℕ) (mode : Mode) where
 
     -- So does the end.
     end-stops : (refusal : Refusal) → tokens_from buffer mode (stop s) ≡ ended → refusal ≡ value_expected (span_at (length buffer) 0) →
-        IsRunRefused buffer last (run_tokens kind first) refusal
+        IsRunRefused buffer last (run_tokens buffer mode kind first) refusal
     unfolding passed
     end-stops refusal none e = stopped kind first last refusal (ap stops e ∙ by_tokens ended none)
 
@@ -111,7 +92,7 @@ module _ (buffer : List ℕ) (mode : Mode) where
       pub record GoesOn (brackets : List ContainerKind) : Type 0 where
         pub past : stop s < stop (span_of t.span)
         pub ends : stop (span_of t.span) ≤ length buffer
-        pub leads : LeadsTo brackets (span_of t.span) (whole kind first)
+        pub leads : LeadsTo buffer mode brackets (span_of t.span) (whole buffer mode kind first)
 
       goes-on : (brackets : List ContainerKind) → IsCut buffer (stop s) (lenient mode) t → (t.token ≡ code.Eof → ⊥) →
           ((k : Kind) → kind_of t.token ≡ Some k → passing innermost around (span_of t.span) k ≡ leaves brackets) → GoesOn brackets
@@ -133,7 +114,7 @@ module _ (buffer : List ℕ) (mode : Mode) where
           (t.token ≡ code.Eof → refusal ≡ value_expected (span_at (length buffer) 0)) →
           ((k : Kind) → kind_of t.token ≡ Some k →
           (refusal ≡ no_memory_at last) ⊎ (passing innermost around (span_of t.span) k ≡ crosses refusal)) →
-          IsRunRefused buffer last (run_tokens kind first) refusal
+          IsRunRefused buffer last (run_tokens buffer mode kind first) refusal
       stops-there refusal (ends is_end none) at_end e = end-stops refusal none (at_end is_end)
       stops-there refusal (stands c) at_end e = elim (e c.kind c.is_kind) [
         | inl no_memory ↦ unopened kind first last refusal no_memory
@@ -146,6 +127,6 @@ module _ (buffer : List ℕ) (mode : Mode) where
           (t.token ≡ code.Eof → refusal ≡ value_expected (span_of t.span)) →
           ((k : Kind) → kind_of t.token ≡ Some k →
           (refusal ≡ no_memory_at last) ⊎ (passing innermost around (span_of t.span) k ≡ crosses refusal)) →
-          IsRunRefused buffer last (run_tokens kind first) refusal
+          IsRunRefused buffer last (run_tokens buffer mode kind first) refusal
       token-stops refusal span at_end e =
           stops-there refusal (is_cut buffer (stop s) (lenient mode) t within answer) (λ is_end. at_end is_end ∙ ap value_expected (span is_end)) e

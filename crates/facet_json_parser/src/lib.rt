@@ -6,6 +6,7 @@
 mod block;
 mod line;
 mod lookahead;
+mod marks;
 pub mod message;
 mod parser;
 mod part;

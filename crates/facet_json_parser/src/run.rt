@@ -1,9 +1,9 @@
 //! Passes a value's tokens up to its last one, whatever stands between its brackets.
 
-ghost use Rattle.std.specs.Prelude.{◌≡◌, ◌≤◌, ◌⊎◌, true, List, ◌∷◌, Some, length, IfOk, IfErr, MatchResult};
+ghost use Rattle.std.specs.Prelude.{◌≡◌, ◌≤◌, ◌<◌, ◌⊎◌, true, List, ◌∷◌, Some, length, IfOk, IfErr, MatchResult};
 ghost use Rattle.facet_format.specs.Cursor.{no_memory_at};
 ghost use Rattle.facet_format.specs.Event.{ContainerKind as SpecContainer};
-ghost use Rattle.facet_format.specs.Span.{stop, span_at};
+ghost use Rattle.facet_format.specs.Span.{Span as SpecSpan, stop, span_at};
 ghost use Rattle.facet_format.specs.Views.{span_of, container_of};
 ghost use Rattle.facet_json_token.specs.Token.{Kind};
 ghost use Rattle.facet_json_token.specs.Cut as spec_cut;
@@ -13,7 +13,8 @@ ghost use Rattle.facet_json_document.specs.Run.{opening};
 ghost use Rattle.facet_json_document.specs.Inner.PassedRun.{leaves, crosses, closing_one, passing};
 ghost use Rattle.facet_json_reader.specs.PlaceViews.{refused_of};
 ghost use Rattle.facet_json_parser.specs.Inner.Quiet.{RunLeadsOn};
-ghost use Rattle.facet_json_parser.specs.RunViews.{AnswersRun, value_expected};
+ghost use Rattle.facet_json_parser.specs.Inner.Leads.{LeadsTo, whole, run_tokens, IsOpen};
+ghost use Rattle.facet_json_parser.specs.RunViews.{AnswersRun, IsRunRefused, value_expected};
 
 use crate::quiet::past_quiet;
 use facet_format::{ContainerKind, Span};
@@ -86,6 +87,31 @@ pub fn pass_container(
         passed = token.span;
     }
     Ok(passed)
+}
+
+/// Passes the token that begins at this offset, up to which quiet tokens stand.
+#[inline(always)]
+pub(crate) fn pass_mark(
+    contexts: &mut Contexts,
+    input: &[u8],
+    mode: Mode,
+    passed: Span,
+    from: usize,
+    last: Span,
+) -> Result<Span, Refused>
+    requires open { IsOpen contexts.old }
+    requires on { RunLeadsOn input.now (mode_of mode) (stop (span_of passed)) from }
+    ensures leads { (kind : SpecContainer) (first : SpecSpan) → LeadsTo input.now (mode_of mode) contexts.old (span_of passed) (whole input.now (mode_of mode) kind first)
+        → MatchResult result (λ s. LeadsTo input.now (mode_of mode) contexts.new (span_of s) (whole input.now (mode_of mode) kind first))
+        (λ r. IsRunRefused input.now (span_of last) (run_tokens input.now (mode_of mode) kind first) (refused_of r)) }
+    ensures onward { IfOk result (λ s. (from < stop (span_of s)) × (stop (span_of s) ≤ length input.now)) }
+{
+    let Some(innermost) = contexts.innermost() else {
+        return Ok(passed);
+    };
+    let token = next_token(input, from, mode)?;
+    pass_token(contexts, innermost, &token, last)?;
+    Ok(token.span)
 }
 
 /// The offset up to which tokens that open and close nothing are passed, and the next token there. Where a bracket stands at the

@@ -1,0 +1,38 @@
+-- What a run comes to from where passing it stands.
+use Rattle.std.specs.Prelude.{◌≡◌, ◌≤◌, ℕ, Bool, List, [], ◌∷◌, length, ⊤}
+use Rattle.facet_format.specs.Event.{ContainerKind}
+use Rattle.facet_format.specs.Span.{Span, stop}
+use Rattle.facet_format.specs.Views.{span_of}
+use Rattle.facet_json_token.specs.Gap.{Mode}
+use Rattle.facet_json_token.specs.Token.{Kind, Token}
+use Rattle.facet_json_token.specs.Tokens.{Tokens, next}
+use Rattle.facet_json_token.specs.TokenList.{tokens_from}
+use Rattle.facet_json_document.specs.Run.{opening}
+use Rattle.facet_json_document.specs.Inner.PassedRun.{Outcome, passed}
+
+module _ (buffer : List ℕ) (mode : Mode) where
+  -- what follows where these brackets are open, and this was the last token
+  abbrev pub goes_on : List ContainerKind → Token → Outcome
+  goes_on stack last = passed buffer stack last (tokens_from buffer mode (stop last.span))
+
+  -- the token that opens the run
+  abbrev pub first_token : ContainerKind → Span → Token
+  first_token kind s = record { kind = opening kind; span = s }
+
+  -- the run's first token, and the others
+  abbrev pub run_tokens : ContainerKind → Span → Tokens
+  run_tokens kind first = next (first_token kind first) (tokens_from buffer mode (stop first))
+
+  -- the run's outcome
+  abbrev pub whole : ContainerKind → Span → Outcome
+  whole kind first = goes_on (kind ∷ []) (first_token kind first)
+
+  -- Where these brackets are open after a token that takes these bytes, the same outcome follows.
+  pub record LeadsTo (stack : List ContainerKind) (s : Span) (o : Outcome) : Type 0 where
+    pub kind : Kind
+    pub same : goes_on stack (record { kind = kind; span = s }) ≡ o
+
+-- Some brackets are open.
+abbrev pub IsOpen : List ContainerKind → Type 0
+IsOpen [] = ⊥
+IsOpen (kind ∷ around) = ⊤
