@@ -5,6 +5,7 @@ pub mod EventsInBatch
 pub mod FirstParts
 pub mod KeptSpots
 pub mod Lines
+pub mod MarkSteps
 pub mod MarksAreCut
 pub mod OpenedContainers
 pub mod ParserWithin

@@ -22,7 +22,7 @@ below_last i h e = grind (arith, nat_tests)
 
 module _ (buffer : List ℕ) (mode : Mode) (settled at : ℕ) (within : Bool) (v : List ℕ) (room : at + 64 ≤ length buffer)
     (same : (i : ℕ) → i < 64 → get_or v i 0 ≡ get_or buffer (at + i) 0) where
-  here : (i : ℕ) → i < 64 → slice_get buffer (at + i) ≡ Some (get_or v i 0)
+  pub here : (i : ℕ) → i < 64 → slice_get buffer (at + i) ≡ Some (get_or v i 0)
   here i h = slice_get-get_or buffer (at + i) 0 (omega (arith, room)) ∙ ap Some (sym (same i h))
 
   abbrev Passed : ℕ → Bool → Type 0

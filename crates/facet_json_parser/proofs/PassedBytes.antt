@@ -74,6 +74,9 @@ digits-whole b rest =
     let e : 0 + suc (digits_len rest) ≡ suc (digits_len rest) = omega arith in
     ap (λ k. whole_len k (b ∷ rest)) e ∙ whole_len-is (suc (digits_len rest)) (b ∷ rest) ∙ after_digits-more (digits_len rest) b rest
 
+pub uncalm-no_digit : (b : ℕ) → is_calm b ≡ false → is_digit b ≡ false
+uncalm-no_digit b e = grind (arith, nat_tests)
+
 -- the parts of a number that begins with a digit
 pub digit-parts : (b : ℕ) (rest : List ℕ) → is_digit b ≡ true → (parts_len (parts (b ∷ rest)) ≡ suc (tail_len rest)) × (is_bare (parts (b ∷ rest)) ≡ false)
 unfolding parts

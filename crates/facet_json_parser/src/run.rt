@@ -1,6 +1,6 @@
 //! Passes a value's tokens up to its last one, whatever stands between its brackets.
 
-ghost use Rattle.std.specs.Prelude.{◌≡◌, ◌≤◌, ◌<◌, ◌⊎◌, true, List, ◌∷◌, Some, length, IfOk, IfErr, MatchResult};
+ghost use Rattle.std.specs.Prelude.{◌≡◌, ◌≤◌, ◌<◌, ◌⊎◌, true, List, [], ◌∷◌, Some, length, IfOk, IfErr, MatchResult};
 ghost use Rattle.facet_format.specs.Cursor.{no_memory_at};
 ghost use Rattle.facet_format.specs.Event.{ContainerKind as SpecContainer};
 ghost use Rattle.facet_format.specs.Span.{Span as SpecSpan, stop, span_at};
@@ -16,12 +16,14 @@ ghost use Rattle.facet_json_parser.specs.Inner.Quiet.{RunLeadsOn};
 ghost use Rattle.facet_json_parser.specs.Inner.Leads.{LeadsTo, whole, run_tokens, IsOpen};
 ghost use Rattle.facet_json_parser.specs.RunViews.{AnswersRun, IsRunRefused, value_expected};
 
+use crate::marks::pass_blocks;
 use crate::quiet::past_quiet;
 use facet_format::{ContainerKind, Span};
 use facet_json_reader::{Contexts, Expected, Name, Refused, Why};
 use facet_json_token::cutting::token_at;
 use facet_json_token::{CutResult, Mode, SpannedToken, Token, cut};
 use std::alloc::Global;
+use std::mem;
 
 /// Passes the run of the value that begins with this token, which was cut off the input, and returns the run's last token. A
 /// scalar is its own run. From an opening bracket on memory is taken for the kinds of open brackets alone: where it runs
@@ -79,14 +81,86 @@ pub fn pass_container(
 {
     let mut contexts = Contexts::new(alloc);
     open_bracket(&mut contexts, kind, last)?;
-    let mut passed = first;
-    while let Some(innermost) = contexts.innermost() {
-        let (_, token) = token_beyond(input, passed.end(), mode);
-        let token = token?;
-        pass_token(&mut contexts, innermost, &token, last)?;
-        passed = token.span;
+    pass_open(alloc, &mut contexts, input, mode, first, last)
+}
+
+/// Passes all up to the bracket that closes the last one of these: first by tokens, then by blocks, and by tokens again where that is
+/// faster.
+fn pass_open(
+    alloc: Global,
+    contexts: &mut Contexts,
+    input: &[u8],
+    mode: Mode,
+    first: Span,
+    last: Span,
+) -> Result<Span, Refused>
+    requires { stop (span_of first) ≤ length input.now }
+    ensures leads { (kind : SpecContainer) (opened : SpecSpan) → LeadsTo input.now (mode_of mode) contexts.old (span_of first) (whole input.now (mode_of mode) kind opened)
+        → MatchResult result (λ s. LeadsTo input.now (mode_of mode) [] (span_of s) (whole input.now (mode_of mode) kind opened))
+        (λ r. IsRunRefused input.now (span_of last) (run_tokens input.now (mode_of mode) kind opened) (refused_of r)) }
+    ensures onward { IfOk result (λ s. (stop (span_of first) ≤ stop (span_of s)) × (stop (span_of s) ≤ length input.now)) }
+{
+    let mut stretch = 128;
+    let until = first.end().saturating_add(stretch);
+    let mut passed = pass_tokens(alloc, contexts, input, mode, first, until, last)?;
+    while contexts.innermost().is_some() {
+        let spot = pass_blocks(contexts, input, mode, passed, last)?;
+        stretch = next_stretch(stretch, spot.at == passed.end());
+        let until = spot.at.saturating_add(stretch);
+        passed = pass_tokens(alloc, contexts, input, mode, spot.passed, until, last)?;
     }
     Ok(passed)
+}
+
+/// How far to go by tokens before blocks are tried again: farther each time, while no block is passed.
+fn next_stretch(stretch: usize, stays: bool) -> usize {
+    if stays && stretch < 8192 {
+        2 * stretch
+    } else {
+        256
+    }
+}
+
+/// Passes tokens up to the end, or to one that ends beyond the offset. The kinds of brackets stand apart meanwhile, so that they need not
+/// lie in memory.
+#[inline(never)]
+fn pass_tokens(
+    alloc: Global,
+    brackets: &mut Contexts,
+    input: &[u8],
+    mode: Mode,
+    first: Span,
+    until: usize,
+    last: Span,
+) -> Result<Span, Refused>
+    requires { stop (span_of first) ≤ length input.now }
+    ensures leads { (kind : SpecContainer) (opened : SpecSpan) → LeadsTo input.now (mode_of mode) brackets.old (span_of first) (whole input.now (mode_of mode) kind opened)
+        → MatchResult result (λ s. LeadsTo input.now (mode_of mode) brackets.new (span_of s) (whole input.now (mode_of mode) kind opened))
+        (λ r. IsRunRefused input.now (span_of last) (run_tokens input.now (mode_of mode) kind opened) (refused_of r)) }
+    ensures onward { IfOk result (λ s. (stop (span_of first) ≤ stop (span_of s)) × (stop (span_of s) ≤ length input.now)) }
+    ensures beyond { IfOk result (λ s. IsOpen brackets.new → until < stop (span_of s)) }
+{
+    let mut passed = first;
+    let mut contexts = mem::replace(brackets, Contexts::new(alloc));
+    while contexts.innermost().is_some() && passed.end() <= until {
+        let from = quiet_beyond(input, passed.end(), mode);
+        passed = pass_mark(&mut contexts, input, mode, passed, from, last)?;
+    }
+    *brackets = contexts;
+    Ok(passed)
+}
+
+/// The offset up to which tokens that open and close nothing are passed. Where a bracket stands at the position itself, one look tells, and
+/// nothing is passed.
+#[inline(always)]
+fn quiet_beyond(input: &[u8], position: usize, mode: Mode) -> usize
+    requires { position ≤ length input.now }
+    ensures { RunLeadsOn input.now (mode_of mode) position result }
+{
+    match input.get(position) {
+        Some(b'[' | b']' | b'{' | b'}') => position,
+        _ => past_quiet(input, position, mode),
+    }
 }
 
 /// Passes the token that begins at this offset, up to which quiet tokens stand.
@@ -104,7 +178,7 @@ pub(crate) fn pass_mark(
     ensures leads { (kind : SpecContainer) (first : SpecSpan) → LeadsTo input.now (mode_of mode) contexts.old (span_of passed) (whole input.now (mode_of mode) kind first)
         → MatchResult result (λ s. LeadsTo input.now (mode_of mode) contexts.new (span_of s) (whole input.now (mode_of mode) kind first))
         (λ r. IsRunRefused input.now (span_of last) (run_tokens input.now (mode_of mode) kind first) (refused_of r)) }
-    ensures onward { IfOk result (λ s. (from < stop (span_of s)) × (stop (span_of s) ≤ length input.now)) }
+    ensures onward { IfOk result (λ s. (stop (span_of passed) ≤ from) × (from < stop (span_of s)) × (stop (span_of s) ≤ length input.now)) }
 {
     let Some(innermost) = contexts.innermost() else {
         return Ok(passed);
@@ -112,24 +186,6 @@ pub(crate) fn pass_mark(
     let token = next_token(input, from, mode)?;
     pass_token(contexts, innermost, &token, last)?;
     Ok(token.span)
-}
-
-/// The offset up to which tokens that open and close nothing are passed, and the next token there. Where a bracket stands at the
-/// position itself, one look tells, and nothing is passed.
-#[inline(always)]
-fn token_beyond(input: &[u8], position: usize, mode: Mode) -> (usize, CutResult)
-    requires { position ≤ length input.now }
-    ensures on { RunLeadsOn input.now (mode_of mode) position result.0 }
-    ensures answer { cut_of result.1 ≡ Some (spec_cut.cut input.now result.0 (mode_of mode)) }
-    ensures end { IfOk result.1 (λ t. t.token ≡ Token.Eof → span_of t.span ≡ span_at (length input.now) 0) }
-{
-    match input.get(position) {
-        Some(b'[' | b']' | b'{' | b'}') => (position, next_token(input, position, mode)),
-        _ => {
-            let at = past_quiet(input, position, mode);
-            (at, next_token(input, at, mode))
-        }
-    }
 }
 
 /// The next token, as `cut` gives it. Where a bracket, a comma or a colon stands at the position itself, its byte says which.

@@ -56,5 +56,5 @@ returns-clause-onward c =
     let answer = rw c.in_ok-token.was at c.next_token.ensures.answer in
     elim (is_cut c.args.input.now c.args.from (lenient (mode_of c.args.mode)) c.in_ok-token.token (omega (arith, c.requires.on.ends)) answer) [
       | ends is_end none ↦ absurd (c.in_ok-pass_token.ensures.end is_end)
-      | stands t ↦ (t.past, t.within)
+      | stands t ↦ (c.requires.on.past, t.past, t.within)
     ]
