@@ -6,6 +6,7 @@ pub mod FirstParts
 pub mod KeptSpots
 pub mod Lines
 pub mod MarkSteps
+pub mod OpenRuns
 pub mod MarksAreCut
 pub mod OpenedContainers
 pub mod ParserWithin

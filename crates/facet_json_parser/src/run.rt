@@ -142,24 +142,35 @@ fn pass_tokens(
 {
     let mut passed = first;
     let mut contexts = mem::replace(brackets, Contexts::new(alloc));
-    while contexts.innermost().is_some() && passed.end() <= until {
-        let from = quiet_beyond(input, passed.end(), mode);
-        passed = pass_mark(&mut contexts, input, mode, passed, from, last)?;
+    while let Some(innermost) = contexts.innermost() {
+        if passed.end() > until {
+            *brackets = contexts;
+            return Ok(passed);
+        }
+        let (_, token) = token_beyond(input, passed.end(), mode);
+        let token = token?;
+        pass_token(&mut contexts, innermost, &token, last)?;
+        passed = token.span;
     }
     *brackets = contexts;
     Ok(passed)
 }
 
-/// The offset up to which tokens that open and close nothing are passed. Where a bracket stands at the position itself, one look tells, and
-/// nothing is passed.
+/// The offset up to which tokens that open and close nothing are passed, and the next token there. Where a bracket stands at the
+/// position itself, one look tells, and nothing is passed.
 #[inline(always)]
-fn quiet_beyond(input: &[u8], position: usize, mode: Mode) -> usize
+fn token_beyond(input: &[u8], position: usize, mode: Mode) -> (usize, CutResult)
     requires { position ≤ length input.now }
-    ensures { RunLeadsOn input.now (mode_of mode) position result }
+    ensures on { RunLeadsOn input.now (mode_of mode) position result.0 }
+    ensures answer { cut_of result.1 ≡ Some (spec_cut.cut input.now result.0 (mode_of mode)) }
+    ensures end { IfOk result.1 (λ t. t.token ≡ Token.Eof → span_of t.span ≡ span_at (length input.now) 0) }
 {
     match input.get(position) {
-        Some(b'[' | b']' | b'{' | b'}') => position,
-        _ => past_quiet(input, position, mode),
+        Some(b'[' | b']' | b'{' | b'}') => (position, next_token(input, position, mode)),
+        _ => {
+            let at = past_quiet(input, position, mode);
+            (at, next_token(input, at, mode))
+        }
     }
 }
 

@@ -7,13 +7,13 @@ use Rattle.facet_json_token.specs.Views.{mode_of}
 use Rattle.facet_json_parser.specs.Inner.Leads.{LeadsTo, whole}
 use Rattle.facet_json_parser.proofs.run.pass_tokens.Given as goal
 
-abbrev pub invariant-loop-contexts : goal.invariant-loop-contexts
-invariant-loop-contexts l = record {
+abbrev pub invariant-loop-innermost : goal.invariant-loop-innermost
+invariant-loop-innermost l = record {
   ends : stop (span_of l.passed) ≤ length l.input;
   onward : stop (span_of l.fn.first) ≤ stop (span_of l.passed);
   leads : (kind : ContainerKind) (opened : Span) → LeadsTo l.input (mode_of l.mode) l.fn.brackets (span_of l.fn.first) (whole l.input (mode_of l.mode) kind opened)
       → LeadsTo l.input (mode_of l.mode) l.contexts (span_of l.passed) (whole l.input (mode_of l.mode) kind opened);
 }
 
-abbrev pub decreases-loop-contexts : goal.decreases-loop-contexts
-decreases-loop-contexts l = length l.input - stop (span_of l.passed)
+abbrev pub decreases-loop-innermost : goal.decreases-loop-innermost
+decreases-loop-innermost l = length l.input - stop (span_of l.passed)
