@@ -140,7 +140,7 @@ fn is_want(error: &DeserializeError<'_>, row: &Row<'_>) -> bool {
 }
 
 /// Whether this text was written.
-fn is_written(written: Result<Vec<u8>, JsonSerializeError>, text: &str) -> Option<bool> {
+fn is_written(written: &Result<Vec<u8>, JsonSerializeError>, text: &str) -> Option<bool> {
     match written {
         Ok(written) => Some(written.as_slice() == text.as_bytes()),
         Err(JsonSerializeError::OutOfMemory) => None,
@@ -159,16 +159,23 @@ fn is_refusal(error: DeserializeError<'_>, row: &Row<'_>) -> Option<bool> {
     }
 }
 
+/// Whether the value is written as the row's text.
+fn is_value<'de, T: Facet<'de>>(alloc: Global, value: &T, row: &Row<'_>) -> Option<bool> {
+    match row.answer {
+        Ok(text) => is_written(&to_vec(alloc, value), text),
+        Err(_) => Some(false),
+    }
+}
+
 /// Whether the row's answer was given.
 fn is_answer<'de, T: Facet<'de>>(
     alloc: Global,
-    answer: Result<T, DeserializeError<'_>>,
+    answer: &Result<T, DeserializeError<'_>>,
     row: &Row<'_>,
 ) -> Option<bool> {
-    match (answer, row.answer) {
-        (Ok(value), Ok(text)) => is_written(to_vec(alloc, &value), text),
-        (Ok(_), Err(_)) => Some(false),
-        (Err(error), _) => is_refusal(error, row),
+    match answer {
+        Ok(value) => is_value(alloc, value, row),
+        Err(error) => is_refusal(*error, row),
     }
 }
 
@@ -217,7 +224,7 @@ fn reads_by<'de, T: Facet<'de>>(
         T::read_owned(alloc, parser)
     };
     if leaves(&answer, parser) {
-        is_answer(alloc, answer, row)
+        is_answer(alloc, &answer, row)
     } else {
         Some(false)
     }
@@ -237,12 +244,15 @@ fn alone<'t, T: Drop>(
     Ok(value)
 }
 
-/// Whether the entry gives the row's answer.
-fn reads<'de, T: Facet<'de>>(alloc: Global, entry: Entry, row: &Row<'de>) -> Option<bool> {
-    let text = row.input;
+/// What an entry function reads of the text. The type's own readers take a parser, and `reads` makes it.
+fn read_by<'t, 'de, T: Facet<'de>>(
+    alloc: Global,
+    entry: Entry,
+    text: &'de str,
+) -> Result<T, DeserializeError<'t>> {
     let bytes = text.as_bytes();
-    let answer = match entry {
-        Entry::Slice => from_slice::<T>(alloc, bytes),
+    match entry {
+        Entry::Slice | Entry::Owned => from_slice(alloc, bytes),
         Entry::SliceJsonc => from_slice_jsonc(alloc, bytes),
         Entry::SlicePrefix => alone(from_slice_prefix(alloc, bytes)),
         Entry::SliceStrict => from_slice_strict(alloc, bytes),
@@ -250,14 +260,20 @@ fn reads<'de, T: Facet<'de>>(alloc: Global, entry: Entry, row: &Row<'de>) -> Opt
         Entry::StrJsonc => from_str_jsonc(alloc, text),
         Entry::StrPrefix => alone(from_str_prefix(alloc, text)),
         Entry::StrStrict => from_str_strict(alloc, text),
-        Entry::Owned => return reads_itself::<T>(alloc, false, row),
-        Entry::SliceBorrowed => from_slice_borrowed(alloc, bytes),
+        Entry::SliceBorrowed | Entry::Borrowed => from_slice_borrowed(alloc, bytes),
         Entry::SliceBorrowedJsonc => from_slice_borrowed_jsonc(alloc, bytes),
         Entry::StrBorrowed => from_str_borrowed(alloc, text),
         Entry::StrBorrowedJsonc => from_str_borrowed_jsonc(alloc, text),
-        Entry::Borrowed => return reads_itself::<T>(alloc, true, row),
-    };
-    is_answer(alloc, answer, row)
+    }
+}
+
+/// Whether the entry gives the row's answer.
+fn reads<'de, T: Facet<'de>>(alloc: Global, entry: Entry, row: &Row<'de>) -> Option<bool> {
+    match entry {
+        Entry::Owned => reads_itself::<T>(alloc, false, row),
+        Entry::Borrowed => reads_itself::<T>(alloc, true, row),
+        _ => is_answer(alloc, &read_by::<T>(alloc, entry, row.input), row),
+    }
 }
 
 /// The same twice.
@@ -665,6 +681,9 @@ static PERSONS: [Row<'static>; 3] = [
     },
 ];
 
+/// A name and an age.
+type Person<N> = Need<N, Need<u8, Done>>;
+
 /// The text of a name and an age.
 fn text_of_person<'de, N: Facet<'de>>(
     alloc: Global,
@@ -680,6 +699,31 @@ fn text_of_person<'de, N: Facet<'de>>(
     serializer.finish()
 }
 
+/// Whether the row's answer was given.
+fn is_person<'de, N: Facet<'de>>(
+    alloc: Global,
+    answer: &Result<Person<N>, DeserializeError<'_>>,
+    row: &Row<'_>,
+) -> Option<bool> {
+    match answer {
+        Ok(Need(name, Need(age, Done))) => is_text_of_person(alloc, name, age, row),
+        Err(error) => is_refusal(*error, row),
+    }
+}
+
+/// Whether the name and the age are written as the row's text.
+fn is_text_of_person<'de, N: Facet<'de>>(
+    alloc: Global,
+    name: &N,
+    age: &u8,
+    row: &Row<'_>,
+) -> Option<bool> {
+    match row.answer {
+        Ok(text) => is_written(&text_of_person(alloc, name, age), text),
+        Err(_) => Some(false),
+    }
+}
+
 /// Whether a name and an age are read, and written as the row's text.
 fn reads_person_by<'de, N: Facet<'de>>(
     alloc: Global,
@@ -687,21 +731,16 @@ fn reads_person_by<'de, N: Facet<'de>>(
     row: &Row<'_>,
 ) -> Option<bool> {
     let borrows = matches!(row.by, By::Borrowed);
-    let answer: Result<Need<N, Need<u8, Done>>, DeserializeError<'_>> = read_fields(
+    let answer: Result<Person<N>, DeserializeError<'_>> = read_fields(
         alloc,
         parser,
         borrows,
         &["name", "age"],
     );
-    if !leaves(&answer, parser) {
-        return Some(false);
-    }
-    match (answer, row.answer) {
-        (Ok(Need(name, Need(age, Done))), Ok(text)) => {
-            is_written(text_of_person(alloc, &name, &age), text)
-        }
-        (Ok(_), Err(_)) => Some(false),
-        (Err(error), _) => is_refusal(error, row),
+    if leaves(&answer, parser) {
+        is_person(alloc, &answer, row)
+    } else {
+        Some(false)
     }
 }
 
@@ -807,7 +846,7 @@ fn searches(alloc: Global, row: &Row<'_>, by: Search) -> Option<bool> {
         Search::Pointer => number_pointed(alloc, &mut parser),
     };
     if leaves(&answer, &mut parser) {
-        is_answer(alloc, answer, row)
+        is_answer(alloc, &answer, row)
     } else {
         Some(false)
     }
@@ -865,7 +904,7 @@ const MADE_TREE: &str =
 /// Whether the tree is made whole.
 fn is_made(alloc: Global) -> Option<bool> {
     match made_tree(alloc, "a") {
-        Ok(tree) => is_written(to_vec(alloc, &tree), MADE_TREE),
+        Ok(tree) => is_written(&to_vec(alloc, &tree), MADE_TREE),
         Err(_) => None,
     }
 }
