@@ -876,14 +876,33 @@ fn sum_of_lines(alloc: Global) -> Option<u64> {
     let mut lines = Lines::new(alloc, "1\n20 \n[]\n\n123456789\n300".as_bytes(), 8);
     let mut sum: u64 = 0;
     for _ in 0..9 {
-        match lines.next_line() {
-            Ok(Some(line)) => sum = sum.saturating_add(line.value(alloc).unwrap_or(0)),
-            Ok(None) => return Some(sum),
-            Err(LineError::TooLong { .. } | LineError::Memory) => {}
-            Err(LineError::Io(_)) => return None,
+        match next_number(alloc, &mut lines) {
+            Next::Number(number) => sum = sum.saturating_add(number),
+            Next::End => return Some(sum),
+            Next::Failure => return None,
         }
     }
     None
+}
+
+/// What a call for the next line gives.
+enum Next {
+    /// The line's number; 0 where it has none, where it is refused, and where memory is.
+    Number(u64),
+    /// There is no line any more.
+    End,
+    /// The read failed.
+    Failure,
+}
+
+/// Asks for the next line.
+fn next_number(alloc: Global, lines: &mut Lines<&[u8]>) -> Next {
+    match &lines.next_line() {
+        Ok(Some(line)) => Next::Number(line.value(alloc).unwrap_or(0)),
+        Ok(None) => Next::End,
+        Err(LineError::TooLong { .. } | LineError::Memory) => Next::Number(0),
+        Err(LineError::Io(_)) => Next::Failure,
+    }
 }
 
 #[test]
@@ -903,8 +922,8 @@ const MADE_TREE: &str =
 
 /// Whether the tree is made whole.
 fn is_made(alloc: Global) -> Option<bool> {
-    match made_tree(alloc, "a") {
-        Ok(tree) => is_written(&to_vec(alloc, &tree), MADE_TREE),
+    match &made_tree(alloc, "a") {
+        Ok(tree) => is_written(&to_vec(alloc, tree), MADE_TREE),
         Err(_) => None,
     }
 }
@@ -925,7 +944,7 @@ const TO_LAY_OUT: (&str, &str) = (
 /// Whether it is laid out so, or memory ran out.
 fn lays_out(alloc: Global) -> Option<bool> {
     let (text, wanted) = TO_LAY_OUT;
-    match format_text(alloc, text.as_bytes(), Mode::Jsonc, FormatOptions::new()) {
+    match &format_text(alloc, text.as_bytes(), Mode::Jsonc, FormatOptions::new()) {
         Ok(found) => Some(found.as_slice() == wanted.as_bytes()),
         Err(error) if error.kind == DeserializeErrorKind::OutOfMemory => None,
         Err(_) => Some(false),
@@ -941,7 +960,7 @@ fn a_growth_is_refused_in_a_layout(rt: HostRuntime) {
 /// Whether a text with an escape, a container within another and a number past 64 bits is read into nodes, if memory suffices.
 fn is_in_nodes(alloc: Global) -> Option<bool> {
     let text = "[{\"\\u0061\":18446744073709551616},\"\\n\"]";
-    match Document::parse(alloc, text.as_bytes()) {
+    match &Document::parse(alloc, text.as_bytes()) {
         Ok(document) => Some(document.root().len() == Some(2)),
         Err(error) if error.kind == DeserializeErrorKind::OutOfMemory => None,
         Err(_) => Some(false),
@@ -957,10 +976,15 @@ fn a_growth_is_refused_in_a_document(rt: HostRuntime) {
 /// Whether the tree of a document's value is taken of its nodes, if memory suffices: texts, a number, and containers within others.
 fn is_taken(alloc: Global) -> Option<bool> {
     let text = br#"[{"\u0061":18446744073709551616,"b":[1.5,[]]},"c"]"#;
-    let document = Document::parse(alloc, text).ok()?;
-    let taken = document.root().to_tree(alloc).ok()?;
+    let taken = tree_in_nodes(alloc, text)?;
     let wanted = tree_from_slice(alloc, text).ok()?;
     Some(taken.is_same(&wanted))
+}
+
+/// The tree that is taken of a document's nodes, if memory suffices.
+fn tree_in_nodes(alloc: Global, text: &[u8]) -> Option<Tree> {
+    let document = Document::parse(alloc, text).ok()?;
+    document.root().to_tree(alloc).ok()
 }
 
 #[test]

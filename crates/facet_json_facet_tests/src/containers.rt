@@ -16,8 +16,8 @@ fn a_value_may_be_null(rt: HostRuntime) {
 
 /// Whether the list of 1 and null is read, and written again.
 fn list_is_itself(alloc: Global) -> bool {
-    match vec![in alloc; Some(1_u8), None] {
-        Ok(items) => is_itself(alloc, "[1,null]", &items) && reads(alloc, "[ 1, null, ]", &items),
+    match &vec![in alloc; Some(1_u8), None] {
+        Ok(items) => is_itself(alloc, "[1,null]", items) && reads(alloc, "[ 1, null, ]", items),
         Err(_) => false,
     }
 }
@@ -32,8 +32,8 @@ fn nested(alloc: Global) -> Result<Vec<Vec<bool>>, AllocError> {
 
 /// Whether lists of lists are read and written.
 fn lists_are_nested(alloc: Global) -> bool {
-    match nested(alloc) {
-        Ok(items) => is_itself(alloc, "[[true],[]]", &items),
+    match &nested(alloc) {
+        Ok(items) => is_itself(alloc, "[[true],[]]", items),
         Err(_) => false,
     }
 }
@@ -50,8 +50,8 @@ fn lists_are_read_and_written(rt: HostRuntime) {
 
 /// Whether the object is read as a map that is written so.
 fn is_written_again(alloc: Global, input: &str, text: &str) -> bool {
-    match from_slice::<BTreeMap<String, u8>>(alloc, input.as_bytes()) {
-        Ok(map) => writes(alloc, &map, text),
+    match &from_slice::<BTreeMap<String, u8>>(alloc, input.as_bytes()) {
+        Ok(map) => writes(alloc, map, text),
         Err(_) => false,
     }
 }

@@ -22,7 +22,7 @@ fn refusal<'r>(got: &'r str, expected: &'r str) -> DeserializeErrorKind<'r> {
 
 /// Whether the answer is the row's refusal.
 fn is_refused<T: Drop>(answer: Result<T, DeserializeError<'_>>, row: &Row<'_>) -> bool {
-    match answer {
+    match &answer {
         Ok(_) => false,
         Err(error) => {
             error.kind == refusal(row.1, row.2) && error.span == Some(Span::new(row.3, row.4))

@@ -19,9 +19,9 @@ use Wanted::{Other, Read, TooDeep};
 
 /// Whether the answer is the wanted one.
 fn is_wanted(read: Result<Document<'_>, DeserializeError<'_>>, wanted: Wanted) -> bool {
-    match (read, wanted) {
+    match (&read, wanted) {
         (Ok(document), Read(len)) => document.root().len() == len,
-        (Err(error), TooDeep(offset)) => is_bracket(&error, offset),
+        (Err(error), TooDeep(offset)) => is_bracket(error, offset),
         (Err(error), Other(offset)) => error.kind.code() != 5
             && error.span == Some(Span::new(offset, 1)),
         _ => false,

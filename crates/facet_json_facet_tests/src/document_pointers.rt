@@ -5,20 +5,30 @@ use std::alloc::Global;
 
 /// Whether the value's tree is the text's.
 fn has_tree(alloc: Global, value: &Value<'_, '_>, text: &str) -> bool {
-    match (
-        value.to_tree(alloc),
-        tree_from_slice(alloc, text.as_bytes()),
-    ) {
-        (Ok(tree), Ok(wanted)) => tree.is_same(&wanted),
-        _ => false,
+    match &value.to_tree(alloc) {
+        Ok(tree) => is_of(alloc, tree, text),
+        Err(_) => false,
+    }
+}
+
+/// Whether the tree is the text's.
+fn is_of(alloc: Global, tree: &Tree, text: &str) -> bool {
+    match &tree_from_slice(alloc, text.as_bytes()) {
+        Ok(wanted) => tree.is_same(wanted),
+        Err(_) => false,
     }
 }
 
 /// Whether the pointer names this value of the document, or nothing where nothing is wanted.
 fn names(alloc: Global, text: &str, pointer: &str, wanted: Option<&str>) -> bool {
-    let Ok(document) = Document::parse(alloc, text.as_bytes()) else {
-        return false;
-    };
+    match &Document::parse(alloc, text.as_bytes()) {
+        Ok(document) => leads_to(alloc, document, pointer, wanted),
+        Err(_) => false,
+    }
+}
+
+/// The same of a document that is read.
+fn leads_to(alloc: Global, document: &Document<'_>, pointer: &str, wanted: Option<&str>) -> bool {
     match (document.root().pointer(pointer), wanted) {
         (Ok(Some(found)), Some(wanted)) => has_tree(alloc, &found, wanted),
         (Ok(None), None) => true,
@@ -111,11 +121,8 @@ static REFUSED: [(&str, PointerError); 10] = [
 
 /// Whether the text is refused so in this document.
 fn refuses(alloc: Global, document: &str, text: &str, wanted: &PointerError) -> bool {
-    match Document::parse(alloc, document.as_bytes()) {
-        Ok(document) => match document.root().pointer(text) {
-            Ok(_) => false,
-            Err(error) => error == *wanted,
-        },
+    match &Document::parse(alloc, document.as_bytes()) {
+        Ok(document) => document.root().pointer(text).err() == Some(*wanted),
         Err(_) => false,
     }
 }
@@ -150,7 +157,7 @@ static TREES: [&str; 14] = [
 
 /// Whether the tree of the text's nodes is the one that is read of it.
 fn is_copied(alloc: Global, text: &str) -> bool {
-    match Document::parse(alloc, text.as_bytes()) {
+    match &Document::parse(alloc, text.as_bytes()) {
         Ok(document) => has_tree(alloc, &document.root(), text),
         Err(_) => false,
     }
@@ -169,9 +176,6 @@ fn trees_are_taken_of_nodes(rt: HostRuntime) {
     for text in &TREES {
         assert!(rt; is_copied(alloc, *text));
     }
-    let tree = kept(alloc, r#"{"a":[1,"\u0062"],"b":2}"#, "a");
-    match (tree, tree_from_slice(alloc, br#"[1,"b"]"#)) {
-        (Some(tree), Ok(wanted)) => assert!(rt; tree.is_same(&wanted)),
-        _ => assert!(rt; false),
-    }
+    let tree = kept(alloc, r#"{"a":[1,"\u0062"],"b":2}"#, "a").expect(&rt, "a tree");
+    assert!(rt; is_of(alloc, &tree, r#"[1,"b"]"#));
 }

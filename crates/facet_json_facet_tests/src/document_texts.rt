@@ -1,7 +1,7 @@
 //! Values of a document, written by a serializer that the caller holds. The wanted texts are those of RFC 8259 for these values.
 
 use facet_format::FormatSerializer;
-use facet_json::{Document, JsonSerializeError, JsonSerializer, SerializeOptions};
+use facet_json::{Document, JsonSerializeError, JsonSerializer, SerializeOptions, Value};
 use std::alloc::Global;
 
 /// A text, and the list of its root twice, as it is written.
@@ -31,23 +31,38 @@ static ROWS: [Row; 9] = [
     ),
 ];
 
-/// The root twice in a list.
-fn written_twice(
+/// Writes the root twice in a list.
+fn write_twice(
     document: &Document<'_>,
-    mut serializer: JsonSerializer<'_>,
-) -> Result<Vec<u8>, JsonSerializeError> {
+    serializer: &mut JsonSerializer<'_>,
+) -> Result<(), JsonSerializeError> {
     serializer.begin_seq()?;
-    document.root().write(&mut serializer)?;
-    document.root().write(&mut serializer)?;
-    serializer.end_seq()?;
+    document.root().write(serializer)?;
+    document.root().write(serializer)?;
+    serializer.end_seq()
+}
+
+/// The root twice in a list.
+fn written_twice(alloc: Global, document: &Document<'_>) -> Result<Vec<u8>, JsonSerializeError> {
+    let mut serializer = JsonSerializer::new(alloc);
+    write_twice(document, &mut serializer)?;
     serializer.finish()
+}
+
+/// Whether this was written, if memory sufficed.
+fn is_text(written: &Result<Vec<u8>, JsonSerializeError>, wanted: &str) -> Option<bool> {
+    match written {
+        Ok(written) => Some(written.as_slice() == wanted.as_bytes()),
+        Err(_) => None,
+    }
 }
 
 /// Whether the text of it is this, if memory suffices.
 pub fn is_written(alloc: Global, text: &str, wanted: &str) -> Option<bool> {
-    let document = Document::parse(alloc, text.as_bytes()).ok()?;
-    let written = written_twice(&document, JsonSerializer::new(alloc)).ok()?;
-    Some(written.as_slice() == wanted.as_bytes())
+    match &Document::parse(alloc, text.as_bytes()) {
+        Ok(document) => is_text(&written_twice(alloc, document), wanted),
+        Err(_) => None,
+    }
 }
 
 #[test]
@@ -60,13 +75,22 @@ fn values_are_written(rt: HostRuntime) {
     }
 }
 
+/// A value, laid out by these options.
+fn laid_out(
+    alloc: Global,
+    options: SerializeOptions<'_>,
+    value: &Value<'_, '_>,
+) -> Result<Vec<u8>, JsonSerializeError> {
+    let mut serializer = JsonSerializer::with_options(alloc, options);
+    value.write(&mut serializer)?;
+    serializer.finish()
+}
+
 /// Whether a member, laid out by these options, is this text.
 fn is_laid_out(alloc: Global, options: SerializeOptions<'_>, wanted: &str) -> Option<bool> {
     let document = Document::parse(alloc, b"{\"a\":[{\"b\":[1,{}]}]}").ok()?;
-    let mut serializer = JsonSerializer::with_options(alloc, options);
-    document.root().get("a")?.write(&mut serializer).ok()?;
-    let written = serializer.finish().ok()?;
-    Some(written.as_slice() == wanted.as_bytes())
+    let member = document.root().get("a")?;
+    is_text(&laid_out(alloc, options, &member), wanted)
 }
 
 #[test]

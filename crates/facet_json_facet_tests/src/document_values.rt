@@ -246,12 +246,17 @@ fn found<'d, 'i>(document: &'d Document<'i>, row: &Row) -> Option<Value<'d, 'i>>
 
 /// Whether the row is told.
 fn is_told(alloc: Global, row: &Row) -> bool {
-    match Document::parse(alloc, row.text.as_bytes()) {
-        Ok(document) => match found(&document, row) {
-            Some(value) => is_wanted(&value, row.wanted),
-            None => matches!(row.wanted, Wanted::Nothing),
-        },
+    match &Document::parse(alloc, row.text.as_bytes()) {
+        Ok(document) => is_found(document, row),
         Err(_) => false,
+    }
+}
+
+/// Whether the row is told of its document.
+fn is_found(document: &Document<'_>, row: &Row) -> bool {
+    match found(document, row) {
+        Some(value) => is_wanted(&value, row.wanted),
+        None => matches!(row.wanted, Wanted::Nothing),
     }
 }
 
@@ -336,19 +341,25 @@ fn holds_items(value: &Value<'_, '_>) -> bool {
     index == ITEMS.len()
 }
 
+/// Whether the input is an object of these members alone.
+fn are_members(alloc: Global, input: &[u8]) -> bool {
+    match &Document::parse(alloc, input) {
+        Ok(document) => holds_members(&document.root()) && document.root().items().is_none(),
+        Err(_) => false,
+    }
+}
+
+/// Whether the input is a list of these items alone.
+fn are_items(alloc: Global, input: &[u8]) -> bool {
+    match &Document::parse(alloc, input) {
+        Ok(document) => holds_items(&document.root()) && document.root().members().is_none(),
+        Err(_) => false,
+    }
+}
+
 #[test]
 fn what_is_held_comes_in_order(rt: HostRuntime) {
     let alloc = rt.alloc();
-    match Document::parse(alloc, b"{\"a\":1,\"b\":[2,{\"a\":3}],\"\\u0061\":4}") {
-        Ok(document) => assert!(rt;
-            holds_members(&document.root()) && document.root().items().is_none()
-        ),
-        Err(_) => assert!(rt; false),
-    }
-    match Document::parse(alloc, b"[7,[8],9]") {
-        Ok(document) => assert!(rt;
-            holds_items(&document.root()) && document.root().members().is_none()
-        ),
-        Err(_) => assert!(rt; false),
-    }
+    assert!(rt; are_members(alloc, b"{\"a\":1,\"b\":[2,{\"a\":3}],\"\\u0061\":4}"));
+    assert!(rt; are_items(alloc, b"[7,[8],9]"));
 }

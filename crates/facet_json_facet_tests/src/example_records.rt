@@ -1,13 +1,14 @@
 //! Structs: read, written, and read again.
 
+use crate::typed::{is_itself, writes};
 use facet_format::{DeserializeErrorKind, Span};
-use facet_json::{from_slice, to_vec};
+use facet_json::from_slice;
 use facet_json_examples::records::{Config, Person, Retry, person_in, raw_response};
 use std::alloc::Global;
 
 /// Whether the input is a person of this name and age.
 fn is_person(alloc: Global, input: &str, name: &str, age: u32) -> bool {
-    match person_in(alloc, input.as_bytes()) {
+    match &person_in(alloc, input.as_bytes()) {
         Ok(person) => person.name.as_str() == name && person.age == age,
         Err(_) => false,
     }
@@ -15,15 +16,8 @@ fn is_person(alloc: Global, input: &str, name: &str, age: u32) -> bool {
 
 /// Whether the person is written as this text, which is read as the person.
 fn comes_back(alloc: Global, name: &str, age: u32, text: &str) -> bool {
-    let Ok(name) = String::from_str(alloc, name) else {
-        return false;
-    };
-    let person = Person { name, age };
-    match to_vec(alloc, &person) {
-        Ok(written) => {
-            written.as_slice() == text.as_bytes()
-                && from_slice(alloc, written.as_slice()) == Ok(person)
-        }
+    match String::from_str(alloc, name) {
+        Ok(name) => is_itself(alloc, text, &Person { name, age }),
         Err(_) => false,
     }
 }
@@ -45,7 +39,7 @@ fn persons_are_read_and_written(rt: HostRuntime) {
 
 /// Whether a person without an age is refused so, at the closing bracket.
 fn lacks_age(alloc: Global, input: &str, bracket: usize) -> bool {
-    match person_in(alloc, input.as_bytes()) {
+    match &person_in(alloc, input.as_bytes()) {
         Ok(_) => false,
         Err(error) => {
             error.kind == DeserializeErrorKind::MissingField { field: "age" }
@@ -62,13 +56,8 @@ fn a_missing_field_is_named(rt: HostRuntime) {
 
 /// Whether the payload of a response is this text, and the response is written again as it was.
 fn payload_stays(alloc: Global, input: &str, payload: &str) -> bool {
-    let Ok(response) = raw_response(alloc, input.as_bytes()) else {
-        return false;
-    };
-    match to_vec(alloc, &response) {
-        Ok(written) => {
-            response.payload.as_str() == payload && written.as_slice() == input.as_bytes()
-        }
+    match &raw_response(alloc, input.as_bytes()) {
+        Ok(response) => response.payload.as_str() == payload && writes(alloc, response, input),
         Err(_) => false,
     }
 }
@@ -81,7 +70,7 @@ fn a_payload_stays_text(rt: HostRuntime) {
 
 /// Whether a configuration has no port, and is tried again so many times without a wait.
 fn is_retried(alloc: Global, input: &str, times: u32) -> bool {
-    match from_slice::<Config>(alloc, input.as_bytes()) {
+    match &from_slice::<Config>(alloc, input.as_bytes()) {
         Ok(config) => { config.port == None && config.retry == Some(Retry { times, wait: None }) }
         Err(_) => false,
     }
@@ -89,11 +78,8 @@ fn is_retried(alloc: Global, input: &str, times: u32) -> bool {
 
 /// Whether the text is a configuration that is written as this text.
 fn is_written(alloc: Global, input: &str, text: &str) -> bool {
-    match from_slice::<Config>(alloc, input.as_bytes()) {
-        Ok(config) => match to_vec(alloc, &config) {
-            Ok(written) => written.as_slice() == text.as_bytes(),
-            Err(_) => false,
-        },
+    match &from_slice::<Config>(alloc, input.as_bytes()) {
+        Ok(config) => writes(alloc, config, text),
         Err(_) => false,
     }
 }

@@ -14,7 +14,7 @@ fn is_laid_out(alloc: Global, text: &str, wanted: &str) -> bool {
 
 /// Whether the text is laid out so.
 fn is_formatted(alloc: Global, text: &[u8], wanted: &[u8]) -> bool {
-    match format_text(alloc, text, Mode::Jsonc, FormatOptions::new()) {
+    match &format_text(alloc, text, Mode::Jsonc, FormatOptions::new()) {
         Ok(found) => found.as_slice() == wanted,
         Err(_) => false,
     }
@@ -89,7 +89,7 @@ fn texts_are_laid_out(rt: HostRuntime) {
 
 /// Whether the text is indented so.
 fn is_indented(alloc: Global, indent: Indent, wanted: &[u8]) -> bool {
-    match format_text(alloc, b"[[1]]", Mode::Plain, FormatOptions { indent }) {
+    match &format_text(alloc, b"[[1]]", Mode::Plain, FormatOptions { indent }) {
         Ok(found) => found.as_slice() == wanted,
         Err(_) => false,
     }
@@ -165,10 +165,8 @@ fn text_with(
     second: (usize, &[u8]),
 ) -> Result<Vec<u8>, AllocError> {
     let mut text = Vec::new(alloc);
-    match push_tokens(&mut text, first, second) {
-        Ok(()) => Ok(text),
-        Err(error) => Err(error),
-    }
+    push_tokens(&mut text, first, second)?;
+    Ok(text)
 }
 
 /// Appends it.
@@ -191,7 +189,7 @@ fn push_tokens(
 
 /// Whether a text that is laid out stays as it is.
 fn stays(alloc: Global, text: &[u8]) -> bool {
-    match format_text(alloc, text, Mode::Jsonc, FormatOptions::new()) {
+    match &format_text(alloc, text, Mode::Jsonc, FormatOptions::new()) {
         Ok(once) => is_formatted(alloc, once.as_slice(), once.as_slice()),
         Err(_) => false,
     }
@@ -199,7 +197,7 @@ fn stays(alloc: Global, text: &[u8]) -> bool {
 
 /// Whether the document with these gaps does.
 fn stays_with(alloc: Global, first: (usize, &[u8]), second: (usize, &[u8])) -> bool {
-    match text_with(alloc, first, second) {
+    match &text_with(alloc, first, second) {
         Ok(text) => stays(alloc, text.as_slice()),
         Err(_) => false,
     }

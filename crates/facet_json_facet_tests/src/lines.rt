@@ -1,7 +1,7 @@
 //! JSON lines: which bytes are the lines, which are refused, and that reading goes on after that, however the bytes come.
 
-use facet_format::Span;
-use facet_json::{LineError, Lines, from_slice_borrowed};
+use facet_format::{DeserializeError, Span};
+use facet_json::{Line, LineError, Lines, from_slice_borrowed};
 use facet_json_examples::log_filter::errors_in;
 use std::alloc::Global;
 use std::io;
@@ -38,7 +38,7 @@ type Row = (
     &'static [(usize, Option<&'static str>)],
 );
 
-const ROWS: [Row; 16] = [
+static ROWS: [Row; 16] = [
     ("", 9, &[]),
     ("\n", 9, &[]),
     (" \n\r\n\t", 9, &[]),
@@ -77,25 +77,31 @@ enum Answer {
     Other,
 }
 
+/// What is answered where what came is as it should be, or is not.
+fn answer_if(is_right: bool) -> Answer {
+    if is_right { Answer::As } else { Answer::Other }
+}
+
+/// Whether the line has this number and text.
+fn is_line(line: &Line<'_>, number: usize, text: Option<&str>) -> bool {
+    line.number == number && text.is_some_and(|text| text.as_bytes() == line.text)
+}
+
 /// Asks for the next line.
 fn next<R: Read>(lines: &mut Lines<BufReader<R>>, number: usize, text: Option<&str>) -> Answer {
-    match lines.next_line() {
-        Ok(Some(line)) => {
-            let is_text = text.is_some_and(|text| text.as_bytes() == line.text);
-            if is_text && line.number == number {
-                Answer::As
-            } else {
-                Answer::Other
-            }
-        }
+    match &lines.next_line() {
+        Ok(Some(line)) => answer_if(is_line(line, number, text)),
         Ok(None) => Answer::Other,
-        Err(LineError::TooLong { number: at }) => {
-            if text.is_none() && at == number {
-                Answer::As
-            } else {
-                Answer::Other
-            }
-        }
+        Err(LineError::TooLong { number: at }) => answer_if(text.is_none() && *at == number),
+        Err(LineError::Memory | LineError::Io(_)) => Answer::Failed,
+    }
+}
+
+/// Asks for the end.
+fn end<R: Read>(lines: &mut Lines<BufReader<R>>) -> Answer {
+    match &lines.next_line() {
+        Ok(None) => Answer::As,
+        Ok(Some(_)) | Err(LineError::TooLong { .. }) => Answer::Other,
         Err(LineError::Memory | LineError::Io(_)) => Answer::Failed,
     }
 }
@@ -109,73 +115,94 @@ struct Way {
     kind: ErrorKind,
 }
 
+/// How often a failure was told before the end, which is asked for once more then; none where another line came.
+fn failures_at_end<R: Read>(lines: &mut Lines<BufReader<R>>) -> Option<usize> {
+    match end(lines) {
+        Answer::As => Some(0),
+        Answer::Failed if end(lines) == Answer::As => Some(1),
+        _ => None,
+    }
+}
+
 /// How often a failure was told where these lines came, and then the end; none where others came.
-fn failures(alloc: Global, row: Row, way: Way) -> Option<usize> {
-    let (input, limit, expected) = row;
+fn failures_told<R: Read>(
+    lines: &mut Lines<BufReader<R>>,
+    expected: &[(usize, Option<&str>)],
+) -> Option<usize> {
+    let mut failed: usize = 0;
+    for (number, text) in expected {
+        let mut answer = next(lines, *number, *text);
+        if answer == Answer::Failed {
+            failed = failed.saturating_add(1);
+            answer = next(lines, *number, *text);
+        }
+        if answer != Answer::As {
+            return None;
+        }
+    }
+    Some(failed.saturating_add(failures_at_end(lines)?))
+}
+
+/// The same of a row whose bytes come this way.
+fn failures(alloc: Global, row: &Row, way: Way) -> Option<usize> {
     let reader = Pieces {
-        left: input.as_bytes(),
+        left: row.0.as_bytes(),
         longest: way.longest,
         reads: 0,
         fails_at: way.fails_at,
         kind: way.kind,
     };
     let reader = BufReader::with_capacity(alloc, way.buffer, reader).ok()?;
-    let mut lines = Lines::new(alloc, reader, limit);
-    let mut failed: usize = 0;
-    for (number, text) in expected {
-        let mut answer = next(&mut lines, *number, *text);
-        if answer == Answer::Failed {
-            failed = failed.saturating_add(1);
-            answer = next(&mut lines, *number, *text);
-        }
-        if answer != Answer::As {
-            return None;
-        }
-    }
-    match lines.next_line() {
-        Ok(None) => Some(failed),
-        Ok(Some(_)) | Err(LineError::TooLong { .. }) => None,
-        Err(_) => {
-            if matches!(lines.next_line(), Ok(None)) {
-                Some(failed.saturating_add(1))
-            } else {
-                None
-            }
+    failures_told(&mut Lines::new(alloc, reader, row.1), row.2)
+}
+
+/// Whether the row's lines come through a buffer of this size, however many bytes a read gives.
+fn come(alloc: Global, row: &Row, buffer: usize) -> bool {
+    for longest in &[1, 3, 64] {
+        let way = Way {
+            buffer,
+            longest: *longest,
+            fails_at: usize::MAX,
+            kind: ErrorKind::Other,
+        };
+        if failures(alloc, row, way) != Some(0) {
+            return false;
         }
     }
+    true
 }
 
 #[test]
 fn lines_come_however_the_bytes_do(rt: HostRuntime) {
     let alloc = rt.alloc();
-    for row in ROWS {
-        for buffer in [1, 2, 5, 64] {
-            for longest in [1, 3, 64] {
-                let way = Way {
-                    buffer,
-                    longest,
-                    fails_at: usize::MAX,
-                    kind: ErrorKind::Other,
-                };
-                assert!(rt; failures(alloc, row, way) == Some(0));
-            }
+    for row in &ROWS {
+        for buffer in &[1, 2, 5, 64] {
+            assert!(rt; come(alloc, row, *buffer));
         }
     }
 }
 
-/// Whether so many failures of each row are told, where each read that gives a byte fails in turn.
+/// Whether so many failures of the row are told, where each read that gives a byte fails in turn.
+fn each_read_fails(alloc: Global, row: &Row, kind: ErrorKind, told: usize) -> bool {
+    for fails_at in 0..row.0.len() {
+        let way = Way {
+            buffer: 4,
+            longest: 1,
+            fails_at,
+            kind,
+        };
+        if failures(alloc, row, way) != Some(told) {
+            return false;
+        }
+    }
+    true
+}
+
+/// Whether so many are told of each row.
 fn each_fails(alloc: Global, kind: ErrorKind, told: usize) -> bool {
-    for row in ROWS {
-        for fails_at in 0..row.0.len() {
-            let way = Way {
-                buffer: 4,
-                longest: 1,
-                fails_at,
-                kind,
-            };
-            if failures(alloc, row, way) != Some(told) {
-                return false;
-            }
+    for row in &ROWS {
+        if !each_read_fails(alloc, row, kind, told) {
+            return false;
         }
     }
     true
@@ -209,7 +236,7 @@ fn summed(alloc: Global, input: &[u8]) -> Result<(u64, Refused), LineError> {
 }
 
 /// Inputs, the sum of the numbers in them, and the first line that is refused.
-const SUMS: [(&str, u64, Refused); 5] = [
+static SUMS: [(&str, u64, Refused); 5] = [
     ("", 0, None),
     ("1\n2\r\n39", 42, None),
     (
@@ -225,12 +252,37 @@ const SUMS: [(&str, u64, Refused); 5] = [
     ("7\n1e\n", 7, Some((2, Some(Span { offset: 0, len: 2 })))),
 ];
 
+/// Whether the numbers of the input have this sum, and this line is the first that is refused.
+fn is_summed(alloc: Global, input: &str, sum: u64, refused: Refused) -> bool {
+    match &summed(alloc, input.as_bytes()) {
+        Ok((total, first)) => *total == sum && *first == refused,
+        Err(_) => false,
+    }
+}
+
 #[test]
 fn a_bad_line_does_not_end_the_reading(rt: HostRuntime) {
-    let alloc = rt.alloc();
-    for (input, sum, refused) in SUMS {
-        let answer = summed(alloc, input.as_bytes());
-        assert!(rt; matches!(answer, Ok((total, first)) if total == sum && first == refused));
+    for (input, sum, refused) in &SUMS {
+        assert!(rt; is_summed(rt.alloc(), *input, *sum, *refused));
+    }
+}
+
+/// Whether this text was read.
+fn is_text(read: &Result<String, DeserializeError<'_>>, text: &str) -> bool {
+    match read {
+        Ok(read) => read.as_str() == text,
+        Err(_) => false,
+    }
+}
+
+/// Whether the next line is this text, lent and owned.
+fn is_next(alloc: Global, lines: &mut Lines<&[u8]>, text: &str) -> bool {
+    match &lines.next_line() {
+        Ok(Some(line)) => {
+            from_slice_borrowed::<&str>(alloc, line.text) == Ok(text)
+                && is_text(&line.value::<String>(alloc), text)
+        }
+        _ => false,
     }
 }
 
@@ -238,29 +290,27 @@ fn a_bad_line_does_not_end_the_reading(rt: HostRuntime) {
 fn a_value_may_borrow_of_its_line(rt: HostRuntime) {
     let alloc = rt.alloc();
     let mut lines = Lines::new(alloc, "\"a\"\n\"b\" x".as_bytes(), 9);
-    for text in ["a", "b"] {
-        match lines.next_line() {
-            Ok(Some(line)) => {
-                let lent = from_slice_borrowed::<&str>(alloc, line.text);
-                assert!(rt; lent == Ok(text));
-                let owned = line.value::<String>(alloc).expect(&rt, "a text");
-                assert!(rt; owned.as_str() == text);
-            }
-            _ => panic!(rt; "no line"),
-        }
+    for text in &["a", "b"] {
+        assert!(rt; is_next(alloc, &mut lines, *text));
+    }
+}
+
+/// Whether the refusal's message begins so, and is no longer where `is_whole` says so.
+fn has_message(alloc: Global, refusal: &LineError, text: &str, is_whole: bool) -> bool {
+    match &format!(in alloc; "{refusal}") {
+        Ok(shown) => shown.starts_with(text) && (!is_whole || shown.len() == text.len()),
+        Err(_) => false,
     }
 }
 
 #[test]
 fn refusals_have_a_message(rt: HostRuntime) {
     let alloc = rt.alloc();
-    let long = format!(in alloc; "{}", LineError::TooLong { number: 12 }).expect(&rt, "memory");
-    assert!(rt; long.as_str() == "line 12 is too long");
-    let memory = format!(in alloc; "{}", LineError::Memory).expect(&rt, "memory");
-    assert!(rt; memory.as_str() == "out of memory");
+    let long = LineError::TooLong { number: 12 };
+    assert!(rt; has_message(alloc, &long, "line 12 is too long", true));
+    assert!(rt; has_message(alloc, &LineError::Memory, "out of memory", true));
     let failed = LineError::Io(io::Error::from(ErrorKind::BrokenPipe));
-    let failed = format!(in alloc; "{failed}").expect(&rt, "memory");
-    assert!(rt; failed.as_str().starts_with("I/O error: "));
+    assert!(rt; has_message(alloc, &failed, "I/O error: ", false));
 }
 
 /// A log of which two records are of errors. The second line is no record, and the fourth is cut.

@@ -40,8 +40,8 @@ static LISTS: [(&str, usize); 5] = [
 
 /// The end of the list of numbers that the input begins with.
 fn list_end(alloc: Global, input: &str) -> Option<usize> {
-    match from_str_prefix::<Vec<u8>>(alloc, input) {
-        Ok((_, end)) => Some(end),
+    match &from_str_prefix::<Vec<u8>>(alloc, input) {
+        Ok((_, end)) => Some(*end),
         Err(_) => None,
     }
 }
@@ -54,22 +54,28 @@ fn lists_end_after_their_bracket(rt: HostRuntime) {
     }
 }
 
-/// The four texts that stand one after another, in one text.
-fn joined(alloc: Global, input: &str) -> Option<String> {
+/// Appends the text with which the input begins. What is answered is where it ends.
+fn push_first(alloc: Global, input: &[u8], texts: &mut String) -> Option<usize> {
+    let (text, end) = from_slice_prefix::<String>(alloc, input).ok()?;
+    texts.push_str(text.as_str()).ok()?;
+    Some(end)
+}
+
+/// Appends the four texts that stand one after another. What is answered is whether nothing stands behind them.
+fn push_four(alloc: Global, input: &str, texts: &mut String) -> Option<bool> {
     let mut left = input.as_bytes();
-    let mut texts = String::new(alloc);
     for _ in 0..4 {
-        let (text, end) = from_slice_prefix::<String>(alloc, left).ok()?;
-        texts.push_str(text.as_str()).ok()?;
-        left = left.get(end..)?;
+        left = left.get(push_first(alloc, left, texts)?..)?;
     }
-    if left.is_empty() { Some(texts) } else { None }
+    Some(left.is_empty())
 }
 
 #[test]
 fn documents_stand_one_after_another(rt: HostRuntime) {
-    let all = joined(rt.alloc(), "\"a\"\"\" \"b\\u0063\"\n\"d\"").expect(&rt, "memory");
-    assert!(rt; all.as_str() == "abcd");
+    let mut texts = String::new(rt.alloc());
+    let input = "\"a\"\"\" \"b\\u0063\"\n\"d\"";
+    assert!(rt; push_four(rt.alloc(), input, &mut texts) == Some(true));
+    assert!(rt; texts.as_str() == "abcd");
 }
 
 /// Whether both forms refuse the input so.

@@ -26,15 +26,23 @@ fn read_person<'t, 'de, N: Facet<'de>>(
     Ok(Person { name, age })
 }
 
+/// Writes a person.
+fn write_person(
+    serializer: &mut JsonSerializer<'_>,
+    person: &Person<&str>,
+) -> Result<(), JsonSerializeError> {
+    serializer.begin_struct()?;
+    serializer.field_key("name")?;
+    person.name.write(serializer)?;
+    serializer.field_key("age")?;
+    person.age.write(serializer)?;
+    serializer.end_struct()
+}
+
 /// The text of a person.
 fn text_of_person(alloc: Global, person: &Person<&str>) -> Result<Vec<u8>, JsonSerializeError> {
     let mut serializer = JsonSerializer::new(alloc);
-    serializer.begin_struct()?;
-    serializer.field_key("name")?;
-    person.name.write(&mut serializer)?;
-    serializer.field_key("age")?;
-    person.age.write(&mut serializer)?;
-    serializer.end_struct()?;
+    write_person(&mut serializer, person)?;
     serializer.finish()
 }
 
@@ -51,15 +59,23 @@ fn read_point<'t>(alloc: Global, input: &str) -> Result<Point, DeserializeError<
     Ok(Point { x, y })
 }
 
+/// Writes a point.
+fn write_point(
+    serializer: &mut JsonSerializer<'_>,
+    point: &Point,
+) -> Result<(), JsonSerializeError> {
+    serializer.begin_struct()?;
+    serializer.field_key("x")?;
+    point.x.write(serializer)?;
+    serializer.field_key("y")?;
+    point.y.write(serializer)?;
+    serializer.end_struct()
+}
+
 /// The text of a point.
 fn text_of_point(alloc: Global, point: &Point) -> Result<Vec<u8>, JsonSerializeError> {
     let mut serializer = JsonSerializer::new(alloc);
-    serializer.begin_struct()?;
-    serializer.field_key("x")?;
-    point.x.write(&mut serializer)?;
-    serializer.field_key("y")?;
-    point.y.write(&mut serializer)?;
-    serializer.end_struct()?;
+    write_point(&mut serializer, point)?;
     serializer.finish()
 }
 
@@ -84,21 +100,29 @@ fn read_response<'t, 'de>(
     Ok(Response { status, payload })
 }
 
+/// Writes a response.
+fn write_response(
+    serializer: &mut JsonSerializer<'_>,
+    response: &Response<'_>,
+) -> Result<(), JsonSerializeError> {
+    serializer.begin_struct()?;
+    serializer.field_key("status")?;
+    response.status.write(serializer)?;
+    serializer.field_key("data")?;
+    response.payload.write(serializer)?;
+    serializer.end_struct()
+}
+
 /// The text of a response.
 fn text_of_response(alloc: Global, response: &Response<'_>) -> Result<Vec<u8>, JsonSerializeError> {
     let mut serializer = JsonSerializer::new(alloc);
-    serializer.begin_struct()?;
-    serializer.field_key("status")?;
-    response.status.write(&mut serializer)?;
-    serializer.field_key("data")?;
-    response.payload.write(&mut serializer)?;
-    serializer.end_struct()?;
+    write_response(&mut serializer, response)?;
     serializer.finish()
 }
 
 /// Whether this was written.
 fn is_text(answer: Result<Vec<u8>, JsonSerializeError>, text: &str) -> bool {
-    match answer {
+    match &answer {
         Ok(written) => written.as_slice() == text.as_bytes(),
         Err(_) => false,
     }
@@ -106,7 +130,7 @@ fn is_text(answer: Result<Vec<u8>, JsonSerializeError>, text: &str) -> bool {
 
 /// Whether an object without this field was refused at its closing bracket, which is at this byte.
 fn misses<T: Drop>(answer: Result<T, DeserializeError<'_>>, field: &str, bracket: usize) -> bool {
-    match answer {
+    match &answer {
         Ok(_) => false,
         Err(error) => {
             error.kind == DeserializeErrorKind::MissingField { field }
@@ -115,16 +139,18 @@ fn misses<T: Drop>(answer: Result<T, DeserializeError<'_>>, field: &str, bracket
     }
 }
 
-/// Whether the object is read as this person, with a name of its own and with a borrowed one.
-fn is_person(alloc: Global, input: &str, name: &str, age: u32) -> bool {
-    match read_person::<String>(alloc, input, false) {
-        Ok(person) => {
-            person.name.as_str() == name
-                && person.age == age
-                && read_person(alloc, input, true) == Ok(Person { name, age })
-        }
+/// Whether the object is read as this person, with a name of its own.
+fn owns_name(alloc: Global, input: &str, name: &str, age: u32) -> bool {
+    match &read_person::<String>(alloc, input, false) {
+        Ok(person) => person.name.as_str() == name && person.age == age,
         Err(_) => false,
     }
+}
+
+/// Whether the object is read as this person, with a name of its own and with a borrowed one.
+fn is_person(alloc: Global, input: &str, name: &str, age: u32) -> bool {
+    owns_name(alloc, input, name, age)
+        && read_person(alloc, input, true) == Ok(Person { name, age })
 }
 
 /// Objects that are read as a person, with the name and the age.

@@ -13,9 +13,9 @@ pub fn is_told<T: Drop>(
     answer: Result<T, DeserializeError<'_>>,
     error: DeserializeError<'_>,
 ) -> bool {
-    match answer {
+    match &answer {
         Ok(_) => false,
-        Err(told) => told == error,
+        Err(told) => *told == error,
     }
 }
 

@@ -5,7 +5,7 @@ use std::alloc::Global;
 
 /// Whether the document is written as this text.
 fn is_written(alloc: Global, document: &str, text: &str) -> bool {
-    match rewritten(alloc, document.as_bytes()) {
+    match &rewritten(alloc, document.as_bytes()) {
         Ok(written) => written.as_slice() == text.as_bytes(),
         Err(_) => false,
     }

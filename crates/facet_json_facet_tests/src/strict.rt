@@ -13,7 +13,7 @@ pub(crate) fn is_refused<T: Drop>(
     kind: &DeserializeErrorKind<'_>,
     span: Span,
 ) -> bool {
-    match answer {
+    match &answer {
         Ok(_) => false,
         Err(error) => error.kind == *kind && error.span == Some(span),
     }

@@ -1,7 +1,7 @@
 //! Texts.
 
 use crate::typed::{is_itself, mismatch, reads, refuses};
-use facet_format::Span;
+use facet_format::{DeserializeError, Span};
 use facet_json::{from_str, to_string};
 use std::alloc::Global;
 
@@ -70,11 +70,24 @@ static TEXTS: [(&str, &str); 13] = [
 
 /// Whether the text is written so, as a text too, and read again.
 fn comes_back(alloc: Global, text: &str, written: &str) -> bool {
-    let Ok(value) = String::from_str(alloc, text) else {
-        return false;
-    };
-    match to_string(alloc, &value) {
-        Ok(json) => json.as_str() == written && from_str(alloc, json.as_str()) == Ok(value),
+    match String::from_str(alloc, text) {
+        Ok(value) => { is_text(alloc, &value, written) && is_read(&from_str(alloc, written), text) }
+        Err(_) => false,
+    }
+}
+
+/// Whether this text was read.
+fn is_read(read: &Result<String, DeserializeError<'_>>, text: &str) -> bool {
+    match read {
+        Ok(read) => read.as_str() == text,
+        Err(_) => false,
+    }
+}
+
+/// Whether the text is written so, as a text.
+fn is_text(alloc: Global, value: &String, written: &str) -> bool {
+    match &to_string(alloc, value) {
+        Ok(json) => json.as_str() == written,
         Err(_) => false,
     }
 }

@@ -25,16 +25,17 @@ fn list_is_itself(alloc: Global) -> bool {
 
 /// Whether each value of a map may be another one.
 fn values_of_a_map(alloc: Global) -> bool {
-    match from_slice::<BTreeMap<String, Tree>>(alloc, b"{\"a\":1,\"b\":[true],\"a\":{}}") {
-        Ok(map) => {
-            map.len() == 2
-                && match (map.get("a"), map.get("b")) {
-                    (Some(a), Some(b)) => a.as_pairs().is_some()
-                        && b.item(0) == Some(&Tree::Bool(true)),
-                    _ => false,
-                }
-        }
+    match &from_slice::<BTreeMap<String, Tree>>(alloc, b"{\"a\":1,\"b\":[true],\"a\":{}}") {
+        Ok(map) => map.len() == 2 && are_values(map),
         Err(_) => false,
+    }
+}
+
+/// Whether the values are an object and a list of a truth value.
+fn are_values(map: &BTreeMap<String, Tree>) -> bool {
+    match (map.get("a"), map.get("b")) {
+        (Some(a), Some(b)) => a.as_pairs().is_some() && b.item(0) == Some(&Tree::Bool(true)),
+        _ => false,
     }
 }
 

@@ -7,8 +7,8 @@ use std::alloc::Global;
 
 /// Whether this value was read.
 fn is_wanted<T: PartialEq + Drop>(answer: Result<T, DeserializeError<'_>>, wanted: &T) -> bool {
-    match answer {
-        Ok(value) => value == *wanted,
+    match &answer {
+        Ok(value) => *value == *wanted,
         Err(_) => false,
     }
 }
@@ -21,7 +21,7 @@ pub fn reads<'de, T: Facet<'de> + PartialEq>(alloc: Global, input: &'de str, wan
 
 /// Whether the value is written as this text.
 pub fn writes<'de, T: Facet<'de>>(alloc: Global, value: &T, text: &str) -> bool {
-    match to_vec(alloc, value) {
+    match &to_vec(alloc, value) {
         Ok(written) => written.as_slice() == text.as_bytes(),
         Err(_) => false,
     }
@@ -34,8 +34,8 @@ pub fn is_itself<'de, T: Facet<'de> + PartialEq>(alloc: Global, text: &'de str, 
 
 /// Whether the text is read as a value of the type that is written as the text.
 pub fn comes_back<'de, T: Facet<'de>>(alloc: Global, text: &'de str) -> bool {
-    match from_slice::<T>(alloc, text.as_bytes()) {
-        Ok(value) => writes(alloc, &value, text),
+    match &from_slice::<T>(alloc, text.as_bytes()) {
+        Ok(value) => writes(alloc, value, text),
         Err(_) => false,
     }
 }
@@ -47,7 +47,7 @@ pub fn refuses<'de, 't, T: Facet<'de>>(
     kind: DeserializeErrorKind<'t>,
     span: Span,
 ) -> bool {
-    match from_slice::<T>(alloc, input.as_bytes()) {
+    match &from_slice::<T>(alloc, input.as_bytes()) {
         Ok(_) => false,
         Err(error) => error.kind == kind && error.span == Some(span),
     }
