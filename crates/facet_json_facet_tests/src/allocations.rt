@@ -28,7 +28,7 @@ fn but_once(first: Option<bool>, again: Option<bool>) -> bool {
 }
 
 /// A way to read a value of a type.
-#[derive(Debug, Clone, Copy)]
+#[derive(Clone, Copy)]
 enum Entry {
     /// `from_slice`
     Slice,
@@ -75,22 +75,22 @@ enum By {
     Borrowed,
 }
 
-/// All of them.
-static ENTRIES: [Entry; 14] = [
-    Entry::Slice,
-    Entry::SliceJsonc,
-    Entry::SlicePrefix,
-    Entry::Str,
-    Entry::StrJsonc,
-    Entry::StrPrefix,
-    Entry::Owned,
-    Entry::SliceStrict,
-    Entry::StrStrict,
-    Entry::SliceBorrowed,
-    Entry::SliceBorrowedJsonc,
-    Entry::StrBorrowed,
-    Entry::StrBorrowedJsonc,
-    Entry::Borrowed,
+/// All of them, and what they are called.
+static ENTRIES: [(Entry, &str); 14] = [
+    (Entry::Slice, "from_slice"),
+    (Entry::SliceJsonc, "from_slice_jsonc"),
+    (Entry::SlicePrefix, "from_slice_prefix"),
+    (Entry::Str, "from_str"),
+    (Entry::StrJsonc, "from_str_jsonc"),
+    (Entry::StrPrefix, "from_str_prefix"),
+    (Entry::Owned, "read_owned"),
+    (Entry::SliceStrict, "from_slice_strict"),
+    (Entry::StrStrict, "from_str_strict"),
+    (Entry::SliceBorrowed, "from_slice_borrowed"),
+    (Entry::SliceBorrowedJsonc, "from_slice_borrowed_jsonc"),
+    (Entry::StrBorrowed, "from_str_borrowed"),
+    (Entry::StrBorrowedJsonc, "from_str_borrowed_jsonc"),
+    (Entry::Borrowed, "read"),
 ];
 
 /// Whether an entry is one of these.
@@ -285,9 +285,9 @@ fn is_read<'de, T: Facet<'de>>(alloc: Global, entry: Entry, row: &Row<'de>) -> b
 /// Fails where an entry doesn't give a row's answer.
 fn expect<'de, T: Facet<'de>>(rt: &impl Abort, alloc: Global, rows: &[Row<'de>]) {
     for row in rows {
-        for entry in &ENTRIES {
+        for (entry, name) in &ENTRIES {
             let holds = !is_one(*entry, row.by) || is_read::<T>(alloc, *entry, row);
-            assert!(rt; holds, "{entry:?} of {}", row.input);
+            assert!(rt; holds, "{name} of {}", row.input);
         }
     }
 }
@@ -832,7 +832,7 @@ fn number_pointed<'t>(
 }
 
 /// What is searched.
-#[derive(Debug, Clone, Copy)]
+#[derive(Clone, Copy)]
 enum Search {
     Key,
     Pointer,

@@ -33,7 +33,7 @@ fn again<'de, T: Deserialize<'de> + Serialize>(
 }
 
 /// The text of the value that the input is read as.
-fn rewritten<'t, 'de, T: Deserialize<'de> + Serialize>(
+pub(crate) fn rewritten<'t, 'de, T: Deserialize<'de> + Serialize>(
     alloc: Global,
     input: &'de str,
 ) -> Result<String, Error<'t>> {

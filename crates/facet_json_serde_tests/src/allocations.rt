@@ -2,9 +2,10 @@
 //! memory, which is refused, and it has to pass in every such run. Each text is tried twice: as one request is refused in a run, memory runs out
 //! in one of the two at most, and the other gives the whole answer.
 
+use crate::again::rewritten;
 use crate::enums::{Adjacent, Command};
 use crate::structs::Account;
-use facet_json_serde::{DeserializeErrorKind, Error, ErrorKind, from_str, to_string};
+use facet_json_serde::{DeserializeErrorKind, Error, ErrorKind};
 use serde::{Deserialize, Serialize};
 use std::alloc::Global;
 
@@ -22,13 +23,9 @@ fn comes_back<'de, T: Deserialize<'de> + Serialize>(
     text: &'de str,
     written: &str,
 ) -> Option<bool> {
-    let value: T = match from_str(alloc, text) {
-        Ok(value) => value,
-        Err(error) => return refused(&error),
-    };
-    match to_string(alloc, &value) {
+    match &rewritten::<T>(alloc, text) {
         Ok(again) => Some(again.as_str() == written),
-        Err(error) => refused(&error),
+        Err(error) => refused(error),
     }
 }
 
