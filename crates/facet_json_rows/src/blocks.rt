@@ -51,8 +51,7 @@ fn write_ends(
 ) -> Result<(), AllocError> {
     let mut last = String::new(alloc);
     for count in 0..=MOST {
-        let repeated = parts.repeated.repeat(alloc, count)?;
-        let end = end(alloc, mode, parts.before, repeated.as_str(), parts.after)?;
+        let end = end_of(alloc, mode, parts, count)?;
         if end != last {
             writeln!(told, "{count}: {end}")?;
         }
@@ -61,21 +60,23 @@ fn write_ends(
     Ok(())
 }
 
-/// Where a skip of these parts ends, counted from the end of the repeated one; the same where white space follows.
-fn end(
-    alloc: Global,
-    mode: Mode,
-    before: &str,
-    repeated: &str,
-    after: &str,
-) -> Result<String, AllocError> {
-    let mut input = before.to_string(alloc)?;
-    input.push_str(repeated)?;
-    let start = repeated.len();
-    input.push_str(after)?;
-    let alone = skip_end(alloc, mode, input.as_bytes(), start)?;
+/// Where a skip of these parts ends, the second one so many times, counted from the end of that.
+fn end_of(alloc: Global, mode: Mode, parts: Parts<'_>, count: usize) -> Result<String, AllocError> {
+    let repeated = parts.repeated.repeat(alloc, count)?;
+    let mut input = joined(alloc, parts.before, repeated.as_str(), parts.after)?;
+    end(alloc, mode, &mut input, repeated.len())
+}
+
+/// The three texts one after another.
+fn joined(alloc: Global, first: &str, second: &str, third: &str) -> Result<String, AllocError> {
+    format!(in alloc; "{first}{second}{third}")
+}
+
+/// Where a skip of the input's root ends, so many bytes less; the same where white space follows.
+fn end(alloc: Global, mode: Mode, input: &mut String, less: usize) -> Result<String, AllocError> {
+    let alone = skip_end(alloc, mode, input.as_bytes(), less)?;
     input.push_str(BLANK)?;
-    if skip_end(alloc, mode, input.as_bytes(), start)? == alone {
+    if skip_end(alloc, mode, input.as_bytes(), less)? == alone {
         Ok(alone)
     } else {
         "DIFFERS".to_string(alloc)

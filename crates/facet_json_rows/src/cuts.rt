@@ -2,6 +2,7 @@
 
 use crate::compared::{Mode, Way, compare, parser_of, write_disagreement};
 use crate::row::ALL_EVENTS;
+use crate::shown::bytes_shown;
 use crate::unread::{Unread, span_shown};
 use facet_format::{FormatParser, ParseError, Span};
 use facet_json::JsonParser;
@@ -73,10 +74,22 @@ fn tell_cut(
     let mut parser = parser_of(alloc, mode, is_trusted, input);
     let come = come_in(&mut parser, input.len());
     let end = end_shown(alloc, &mut parser, input.len())?;
+    write!(told, "{come}, {end}")?;
+    tell_unread(alloc, input, mode, is_trusted, end.as_str(), told)
+}
+
+/// What a skip and a capture of the root do, unless both are refused as the events are.
+fn tell_unread(
+    alloc: Global,
+    input: &[u8],
+    mode: Mode,
+    is_trusted: bool,
+    end: &str,
+    told: &mut String,
+) -> Result<(), AllocError> {
     let skip = skip_shown(alloc, &mut parser_of(alloc, mode, is_trusted, input))?;
     let capture = capture_shown(alloc, &mut parser_of(alloc, mode, is_trusted, input))?;
-    write!(told, "{come}, {end}")?;
-    if skip.as_str() == end.as_str() && capture.as_str() == end.as_str() {
+    if skip.as_str() == end && capture.as_str() == end {
         return Ok(());
     }
     write!(told, ", {skip}, {capture}")
@@ -131,7 +144,7 @@ fn skip_shown(alloc: Global, parser: &mut JsonParser<'_>) -> Result<String, Allo
 /// How many bytes a capture of the root answers, or the refusal.
 fn capture_shown(alloc: Global, parser: &mut JsonParser<'_>) -> Result<String, AllocError> {
     match parser.capture_raw() {
-        Ok(Some(text)) => format!(in alloc; "{} bytes", text.len()),
+        Ok(Some(text)) => bytes_shown(alloc, text.len()),
         Ok(None) => "no raw text".to_string(alloc),
         Err(error) => refusal_shown(alloc, error),
     }

@@ -54,12 +54,25 @@ fn answer_parser(
     input: &[u8],
     told: &mut String,
 ) -> Result<(), AllocError> {
-    match (name, parse_script(alloc, words), words.parse()) {
-        ("parser", Ok(calls), _) => {
-            answer_calls(alloc, mode, is_trusted, calls.as_slice(), input, told)
-        }
-        ("queue", _, Ok(limit)) => answer_queue(alloc, mode, is_trusted, limit, input, told),
+    match (name, words.parse()) {
+        ("parser", _) => answer_script(alloc, mode, is_trusted, words, input, told),
+        ("queue", Ok(limit)) => answer_queue(alloc, mode, is_trusted, limit, input, told),
         _ => told.push_str("NO CALLS\n"),
+    }
+}
+
+/// Writes what a parser of the input answers to a script's calls.
+fn answer_script(
+    alloc: Global,
+    mode: Mode,
+    is_trusted: bool,
+    script: &str,
+    input: &[u8],
+    told: &mut String,
+) -> Result<(), AllocError> {
+    match &parse_script(alloc, script) {
+        Ok(calls) => answer_calls(alloc, mode, is_trusted, calls.as_slice(), input, told),
+        Err(_) => told.push_str("NO CALLS\n"),
     }
 }
 

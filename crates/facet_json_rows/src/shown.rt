@@ -1,9 +1,10 @@
 //! Answers of a parser as texts, so that all that is told of an input is one line.
 
-use facet_format::{ParseError, ParseEvent, ParseEventKind};
+use facet_format::{ParseError, ParseEvent, ParseEventKind, ScalarValue, Span};
 use facet_json::Answer;
 use std::alloc::{AllocError, Global};
 use std::collections::VecDeque;
+use std::fmt::Debug;
 
 /// What is told of what is seen.
 #[derive(Clone, Copy)]
@@ -57,43 +58,82 @@ pub fn push_answer(
 
 /// The answer; of several events their number, or the refusal after them.
 fn answer_shown(alloc: Global, answer: &Answer<'_>) -> Result<String, AllocError> {
+    let mut text = String::new(alloc);
+    write_answer(answer, &mut text)?;
+    Ok(text)
+}
+
+fn write_answer(answer: &Answer<'_>, text: &mut String) -> Result<(), AllocError> {
     match answer {
-        Answer::Event(Ok(Some(event))) => event_shown(alloc, event),
-        Answer::Event(Ok(None)) => "None".to_string(alloc),
-        Answer::Events(_, Ok(count)) => format!(in alloc; "events {count}"),
-        Answer::Skipped(Ok(())) => "skipped".to_string(alloc),
-        Answer::Raw(Ok(Some(text))) => format!(in alloc; "raw {text:?}"),
-        Answer::Raw(Ok(None)) => "no raw text".to_string(alloc),
-        Answer::Saved(Ok(point)) => format!(in alloc; "point {}", point.0),
+        Answer::Event(Ok(Some(event))) => write_event(event, text),
+        Answer::Event(Ok(None)) => text.push_str("None"),
+        Answer::Events(_, Ok(count)) => write_shown("events", count, text),
+        Answer::Skipped(Ok(())) => text.push_str("skipped"),
+        Answer::Raw(Ok(Some(raw))) => write_shown("raw", raw, text),
+        Answer::Raw(Ok(None)) => text.push_str("no raw text"),
+        Answer::Saved(Ok(point)) => write_shown("point", &point.0, text),
         Answer::Event(Err(error)) | Answer::Events(_, Err(error)) | Answer::Saved(Err(error)) => {
-            error_shown(alloc, error)
+            write_error(error, text)
         }
-        Answer::Skipped(Err(error)) | Answer::Raw(Err(error)) => error_shown(alloc, error),
-        Answer::Restored => "restored".to_string(alloc),
-        Answer::Span(Some(span)) => format!(in alloc; "span {}+{}", span.offset, span.len),
-        Answer::Span(None) => "no span".to_string(alloc),
+        Answer::Skipped(Err(error)) | Answer::Raw(Err(error)) => write_error(error, text),
+        Answer::Restored => text.push_str("restored"),
+        Answer::Span(Some(span)) => write_span("span", *span, text),
+        Answer::Span(None) => text.push_str("no span"),
     }
+}
+
+/// Writes a value behind what it is called.
+fn write_shown<T: Debug>(name: &str, value: &T, text: &mut String) -> Result<(), AllocError> {
+    write!(text, "{name} {value:?}")
+}
+
+/// Writes a span behind what it is of.
+fn write_span(name: &str, span: Span, text: &mut String) -> Result<(), AllocError> {
+    write!(text, "{name} {}+{}", span.offset, span.len)
 }
 
 fn event_shown(alloc: Global, event: &ParseEvent<'_>) -> Result<String, AllocError> {
-    let kind = kind_shown(alloc, &event.kind)?;
-    format!(in alloc; "{kind} {}+{}", event.span.offset, event.span.len)
+    let mut text = String::new(alloc);
+    write_event(event, &mut text)?;
+    Ok(text)
 }
 
-fn kind_shown(alloc: Global, kind: &ParseEventKind<'_>) -> Result<String, AllocError> {
+fn write_event(event: &ParseEvent<'_>, text: &mut String) -> Result<(), AllocError> {
+    write_kind(&event.kind, text)?;
+    write_span("", event.span, text)
+}
+
+fn write_kind(kind: &ParseEventKind<'_>, text: &mut String) -> Result<(), AllocError> {
     match kind {
-        ParseEventKind::StructStart(_) => "{".to_string(alloc),
-        ParseEventKind::StructEnd => "}".to_string(alloc),
-        ParseEventKind::SequenceStart(_) => "[".to_string(alloc),
-        ParseEventKind::SequenceEnd => "]".to_string(alloc),
-        ParseEventKind::FieldKey(key) => format!(in alloc; "key({:?})", key.name.as_str()),
-        ParseEventKind::Scalar(value) => format!(in alloc; "{value:?}"),
+        ParseEventKind::StructStart(_) => text.push_str("{"),
+        ParseEventKind::StructEnd => text.push_str("}"),
+        ParseEventKind::SequenceStart(_) => text.push_str("["),
+        ParseEventKind::SequenceEnd => text.push_str("]"),
+        ParseEventKind::FieldKey(key) => write_key(key.name.as_str(), text),
+        ParseEventKind::Scalar(value) => write_scalar(value, text),
     }
 }
 
+fn write_key(name: &str, text: &mut String) -> Result<(), AllocError> {
+    write!(text, "key({name:?})")
+}
+
+fn write_scalar(value: &ScalarValue<'_>, text: &mut String) -> Result<(), AllocError> {
+    write!(text, "{value:?}")
+}
+
 pub fn error_shown(alloc: Global, error: &ParseError<'_>) -> Result<String, AllocError> {
-    format!(in alloc;
-        "refused {:?} {}+{}",
-        error.kind, error.span.offset, error.span.len
-    )
+    let mut text = String::new(alloc);
+    write_error(error, &mut text)?;
+    Ok(text)
+}
+
+fn write_error(error: &ParseError<'_>, text: &mut String) -> Result<(), AllocError> {
+    write_shown("refused", &error.kind, text)?;
+    write_span("", error.span, text)
+}
+
+/// So many bytes.
+pub fn bytes_shown(alloc: Global, count: usize) -> Result<String, AllocError> {
+    format!(in alloc; "{count} bytes")
 }

@@ -1,6 +1,6 @@
 //! Skips and captures at each place of an input.
 
-use crate::shown::{Telling, error_shown, push};
+use crate::shown::{Telling, bytes_shown, error_shown, push};
 use facet_format::{FormatParser, ParseError, Span};
 use facet_json::JsonParser;
 use std::alloc::{AllocError, Global};
@@ -109,7 +109,7 @@ fn captured_shown(
     captured: Result<Option<&str>, ParseError<'_>>,
 ) -> Result<String, AllocError> {
     match captured {
-        Ok(Some(text)) => format!(in alloc; "{} bytes", text.len()),
+        Ok(Some(text)) => bytes_shown(alloc, text.len()),
         Ok(None) => "no raw text".to_string(alloc),
         Err(error) => error_shown(alloc, &error),
     }
