@@ -1,10 +1,10 @@
 //! Inputs of which nothing is kept: whether they have a document, in each language, or what is refused.
 
-use facet_format::DeserializeError;
+use facet_format::{DeserializeError, Span};
 use facet_json::{check, check_jsonc, check_strict};
 
 /// Where a refusal stands: an offset and a length.
-type At = Option<(usize, usize)>;
+pub type At = Option<(usize, usize)>;
 
 /// An input, and what `check`, `check_jsonc` and `check_strict` refuse, where they refuse it.
 type Row<'r> = (&'r str, At, At, At);
@@ -24,11 +24,16 @@ static INPUTS: [Row<'static>; 12] = [
     ("[1}", Some((2, 1)), Some((2, 1)), Some((2, 1))),
 ];
 
+/// The offset and the length.
+pub fn place_of(span: Span) -> At {
+    Some((span.offset, span.len))
+}
+
 /// What is refused.
 fn refused(checked: Result<(), DeserializeError<'_>>) -> At {
     match checked {
         Ok(()) => None,
-        Err(error) => error.span.map(|span| (span.offset, span.len)),
+        Err(error) => place_of(error.span?),
     }
 }
 

@@ -1,5 +1,6 @@
 //! Documents as lists of nodes: what is found in them, and what they are by each call. The wanted values are those of RFC 8259 for these texts.
 
+use crate::checking::{At, place_of};
 use facet_format::DeserializeError;
 use facet_json::{Document, Value, ValueKind};
 use std::alloc::Global;
@@ -268,9 +269,6 @@ fn values_are_found(rt: HostRuntime) {
     }
 }
 
-/// Where a refusal stands: an offset and a length.
-type At = Option<(usize, usize)>;
-
 /// An input, and what `parse`, `parse_jsonc` and `parse_strict` refuse, where they refuse it.
 type Refused = (&'static str, At, At, At);
 
@@ -285,9 +283,9 @@ static REFUSED: [Refused; 6] = [
 
 /// What is refused.
 fn refused(read: Result<Document<'_>, DeserializeError<'_>>) -> At {
-    match read {
+    match &read {
         Ok(_) => None,
-        Err(error) => error.span.map(|span| (span.offset, span.len)),
+        Err(error) => place_of(error.span?),
     }
 }
 

@@ -84,7 +84,10 @@ fn answer_if(is_right: bool) -> Answer {
 
 /// Whether the line has this number and text.
 fn is_line(line: &Line<'_>, number: usize, text: Option<&str>) -> bool {
-    line.number == number && text.is_some_and(|text| text.as_bytes() == line.text)
+    match text {
+        Some(text) => line.number == number && line.text == text.as_bytes(),
+        None => false,
+    }
 }
 
 /// Asks for the next line.

@@ -166,16 +166,16 @@ fn tells_raw(alloc: Global, text: &str) -> Option<bool> {
 
 /// How many items the list of the samples lends.
 fn item_count(alloc: Global) -> Option<usize> {
-    match list(alloc) {
-        Ok(tree) => tree.as_list().map(|items| items.len()),
+    match &list(alloc) {
+        Ok(tree) => Some(tree.as_list()?.len()),
         Err(_) => None,
     }
 }
 
 /// How many members the object of the samples lends.
 fn member_count(alloc: Global) -> Option<usize> {
-    match object(alloc) {
-        Ok(tree) => tree.as_pairs().map(|members| members.len()),
+    match &object(alloc) {
+        Ok(tree) => Some(tree.as_pairs()?.len()),
         Err(_) => None,
     }
 }

@@ -141,33 +141,55 @@ fn a_growth_is_refused_in_a_decoder(rt: HostRuntime) {
         );
         assert!(rt; lends(alloc, row.0) && is_checked(row), "{}", row.0);
     }
-    for (text, hint, number) in &numbers() {
-        assert!(rt; is_number(text.as_bytes(), *hint, number), "{text}");
+    for (text, hint, number) in &NUMBERS {
+        assert!(rt;
+            is_number(text.as_bytes(), *hint, &parsed(*number)),
+            "{text}"
+        );
     }
 }
 
+/// What a text is read as.
+#[derive(Clone, Copy)]
+enum Number {
+    U64(u64),
+    I64(i64),
+    U128(u128),
+    I128(i128),
+    /// The decimal of this text.
+    Decimal(&'static str),
+    /// No number.
+    Nothing,
+}
+
 /// Texts of numbers, their hints and what they are read as.
-fn numbers() -> [(&'static str, NumberHint, Option<ParsedNumber<'static>>); 6] {
-    let decimal = match Decimal::new("1.5") {
-        Some(decimal) => Some(ParsedNumber::Decimal(decimal)),
-        None => None,
-    };
-    [
-        ("42", NumberHint::Unsigned, Some(ParsedNumber::U64(42))),
-        ("-42", NumberHint::Signed, Some(ParsedNumber::I64(-42))),
-        (
-            "18446744073709551616",
-            NumberHint::Unsigned,
-            Some(ParsedNumber::U128(18446744073709551616)),
-        ),
-        (
-            "-9223372036854775809",
-            NumberHint::Signed,
-            Some(ParsedNumber::I128(-9223372036854775809)),
-        ),
-        ("1.5", NumberHint::Float, decimal),
-        ("5x", NumberHint::Unsigned, None),
-    ]
+static NUMBERS: [(&str, NumberHint, Number); 6] = [
+    ("42", NumberHint::Unsigned, Number::U64(42)),
+    ("-42", NumberHint::Signed, Number::I64(-42)),
+    (
+        "18446744073709551616",
+        NumberHint::Unsigned,
+        Number::U128(18446744073709551616),
+    ),
+    (
+        "-9223372036854775809",
+        NumberHint::Signed,
+        Number::I128(-9223372036854775809),
+    ),
+    ("1.5", NumberHint::Float, Number::Decimal("1.5")),
+    ("5x", NumberHint::Unsigned, Number::Nothing),
+];
+
+/// The number.
+fn parsed(number: Number) -> Option<ParsedNumber<'static>> {
+    match number {
+        Number::U64(number) => Some(ParsedNumber::U64(number)),
+        Number::I64(number) => Some(ParsedNumber::I64(number)),
+        Number::U128(number) => Some(ParsedNumber::U128(number)),
+        Number::I128(number) => Some(ParsedNumber::I128(number)),
+        Number::Decimal(text) => Some(ParsedNumber::Decimal(Decimal::new(text)?)),
+        Number::Nothing => None,
+    }
 }
 
 /// Whether the text is read as this number, and is one of RFC 8259 alone; or is refused whole where there is none.

@@ -33,12 +33,12 @@ impl Row {
 
 /// Whether the tokens are these.
 fn are_tokens(parts: &[Part], tokens: &[SpannedToken]) -> bool {
+    for (part, token) in parts.iter().zip(tokens) {
+        if !is_part(*part, name_of(&token.token), token.span) {
+            return false;
+        }
+    }
     parts.len() == tokens.len()
-        && parts.iter().zip(tokens).all(|(part, token)| is_part(
-            *part,
-            name_of(&token.token),
-            token.span,
-        ))
 }
 
 /// Whether the refusal is this.

@@ -1,7 +1,7 @@
 //! A search by a JSON pointer, with the document and the pointers of RFC 6901, section 5, and with others.
 
 use crate::pointers::{DOCUMENT, NAMED, REFUSED, is_document};
-use facet_format::{DeserializeError, FormatParser};
+use facet_format::{DeserializeError, FormatParser, Span};
 use facet_json::steps::{FindError, find_pointer};
 use facet_json::{PointerError, Tree, read_tree};
 use facet_json_parser::JsonParser;
@@ -39,10 +39,15 @@ fn expect_named(rt: &impl Abort, alloc: Global, rows: &[Named]) {
 /// Whether the pointer names nothing in the input, of which so many bytes are passed.
 fn lacks(alloc: Global, input: &str, pointer: &str, passed: usize) -> bool {
     let mut parser = JsonParser::new(alloc, input.as_bytes());
-    matches!(find_pointer(&mut parser, pointer), Ok(false))
-        && parser
-            .current_span()
-            .is_some_and(|span| span.end() == passed)
+    matches!(find_pointer(&mut parser, pointer), Ok(false)) && has_passed(&parser, passed)
+}
+
+/// Whether the last token ends there.
+fn has_passed(parser: &JsonParser<'_>, end: usize) -> bool {
+    match parser.current_span() {
+        Some(span) => span.end() == end,
+        None => false,
+    }
 }
 
 /// Inputs, pointers that lead into them, and what these name.
@@ -139,18 +144,14 @@ fn refuses(alloc: Global, text: &str, wanted: PointerError) -> bool {
         Err(FindError::Pointer(error)) => error == wanted,
         _ => false,
     };
-    refused
-        && matches!(find_pointer(&mut parser, "/0"), Ok(true))
-        && parser.current_span().is_some_and(|span| span.end() == 1)
+    refused && matches!(find_pointer(&mut parser, "/0"), Ok(true)) && has_passed(&parser, 1)
 }
 
 /// Whether the parser refuses what the search passes, with this span.
 fn stops(alloc: Global, input: &str, pointer: &str, start: usize, length: usize) -> bool {
     let mut parser = JsonParser::new(alloc, input.as_bytes());
     match find_pointer(&mut parser, pointer) {
-        Err(FindError::Read(error)) => error
-            .span
-            .is_some_and(|span| span.offset == start && span.len == length),
+        Err(FindError::Read(error)) => error.span == Some(Span::new(start, length)),
         _ => false,
     }
 }
@@ -186,7 +187,7 @@ fn finds_later(alloc: Global, input: &str) -> bool {
         && matches!(find_pointer(&mut parser, "/0/b"), Ok(true))
         && matches!(find_pointer(&mut parser, ""), Ok(true))
         && read_tree(alloc, &mut parser).is_ok()
-        && parser.current_span().is_some_and(|span| span.end() == 13)
+        && has_passed(&parser, 13)
 }
 
 #[test]

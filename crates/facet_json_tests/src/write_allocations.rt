@@ -195,8 +195,12 @@ fn lacks(is_told: bool) -> Option<bool> {
 
 /// Whether the room begins with the text, and nothing else was written.
 fn is_filled(room: &[u8], text: &str) -> bool {
-    let rest = room.get(text.len()..).unwrap_or(&[1]);
-    room.starts_with(text.as_bytes()) && rest.iter().all(|byte| *byte == 0)
+    for byte in room.get(text.len()..).unwrap_or(&[1]) {
+        if *byte != 0 {
+            return false;
+        }
+    }
+    room.starts_with(text.as_bytes())
 }
 
 /// Whether the sample is written to a writer that asks for no memory; or memory runs out, and nothing is written.
