@@ -1,7 +1,7 @@
 //! Which lines of a log are wanted.
 
 use crate::members::member;
-use facet_json::{DeserializeError, JsonError, LineError, Lines, from_str};
+use facet_json::{DeserializeError, JsonError, Line, LineError, Lines, from_str};
 use std::alloc::Global;
 use std::io;
 use std::io::{BufRead, ErrorKind, Write};
@@ -38,6 +38,47 @@ pub fn is_wanted<'t>(
     }
 }
 
+/// Copies a line.
+fn copy<W: Write>(line: &[u8], output: &mut W) -> io::Result<()> {
+    output.write_all(line)?;
+    output.write_all(b"\n")
+}
+
+/// Tells why the line of this number is no record.
+fn tell<E: Write>(
+    name: &str,
+    number: usize,
+    refused: DeserializeError<'static>,
+    errors: &mut E,
+) -> io::Result<()> {
+    writeln!(errors, "{name}:{number}: {}", JsonError::from(refused))
+}
+
+/// Tells that the line of this number is too long.
+fn tell_long<E: Write>(name: &str, number: usize, errors: &mut E) -> io::Result<()> {
+    writeln!(errors, "{name}: {}", LineError::TooLong { number })
+}
+
+/// Copies a line that is wanted, and tells why one is no record. What is answered is whether it is one.
+fn pass<W: Write, E: Write>(
+    alloc: Global,
+    name: &str,
+    line: Line<'_>,
+    wanted: Wanted<'_>,
+    output: &mut W,
+    errors: &mut E,
+) -> io::Result<bool> {
+    match is_wanted(alloc, line.text, wanted) {
+        Ok(true) => copy(line.text, output)?,
+        Ok(false) => {}
+        Err(refused) => {
+            tell(name, line.number, refused, errors)?;
+            return Ok(false);
+        }
+    }
+    Ok(true)
+}
+
 /// Copies the lines of a log that are wanted, and tells what is wrong with others. What is answered is whether nothing was.
 pub fn filter<R: BufRead + Drop, W: Write, E: Write>(
     alloc: Global,
@@ -51,21 +92,14 @@ pub fn filter<R: BufRead + Drop, W: Write, E: Write>(
     let mut is_fine = true;
     'lines: loop {
         match lines.next_line() {
-            Ok(Some(line)) => match is_wanted(alloc, line.text, wanted) {
-                Ok(true) => {
-                    output.write_all(line.text)?;
-                    output.write_all(b"\n")?;
-                }
-                Ok(false) => {}
-                Err(error) => {
-                    is_fine = false;
-                    writeln!(errors, "{name}:{}: {}", line.number, JsonError::from(error))?;
-                }
-            },
+            Ok(Some(line)) => {
+                let is_record = pass(alloc, name, line, wanted, output, errors)?;
+                is_fine = is_fine && is_record;
+            }
             Ok(None) => return Ok(is_fine),
             Err(LineError::TooLong { number }) => {
                 is_fine = false;
-                writeln!(errors, "{name}: {}", LineError::TooLong { number })?;
+                tell_long(name, number, errors)?;
             }
             Err(LineError::Memory) => return Err(io::Error::from(ErrorKind::OutOfMemory)),
             Err(LineError::Io(error)) => return Err(error),
