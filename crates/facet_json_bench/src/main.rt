@@ -89,23 +89,28 @@ fn measure_named(
     }
 }
 
-fn main(rt: HostRuntime) -> io::Result<()> {
-    let words: Vec<String> = env::args(&rt)?.skip(1).collect(rt.alloc())?;
-    let mut bytes = Vec::new(rt.alloc());
-    rt.stdin().read_to_end(&mut bytes)?;
-    let Ok(input) = str::from_utf8(bytes.as_slice()) else {
-        return Err(io::Error::from(ErrorKind::InvalidData));
-    };
-    match words.as_slice() {
-        [] => show(&rt, input),
-        [name, rounds] => measure_named(&rt, name.as_str(), rounds.as_str(), None, input),
+/// Does what the words say with the input.
+fn act(rt: &HostRuntime, words: &[String], input: &str) -> io::Result<()> {
+    match words {
+        [] => show(rt, input),
+        [name, rounds] => measure_named(rt, name.as_str(), rounds.as_str(), None, input),
         [name, rounds, word] => measure_named(
-            &rt,
+            rt,
             name.as_str(),
             rounds.as_str(),
             Some(word.as_str()),
             input,
         ),
         _ => Err(io::Error::from(ErrorKind::InvalidInput)),
+    }
+}
+
+fn main(rt: HostRuntime) -> io::Result<()> {
+    let words: Vec<String> = env::args(&rt)?.skip(1).collect(rt.alloc())?;
+    let mut bytes = Vec::new(rt.alloc());
+    rt.stdin().read_to_end(&mut bytes)?;
+    match str::from_utf8(bytes.as_slice()) {
+        Ok(input) => act(&rt, words.as_slice(), input),
+        Err(_) => Err(io::Error::from(ErrorKind::InvalidData)),
     }
 }
