@@ -910,10 +910,21 @@ fn a_growth_is_refused_in_a_line(rt: HostRuntime) {
     assert!(rt; sum_of_lines(rt.alloc()) == Some(321));
 }
 
+/// A list with this tree, a text and a list in it.
+fn made_list(alloc: Global, lent: &Tree) -> Result<Tree, AllocError> {
+    tree!(in alloc; ["b", [null], lent])
+}
+
+/// An object with an object in it.
+fn made_object(alloc: Global) -> Result<Tree, AllocError> {
+    tree!(in alloc; {"c": 1u8, "d": {}})
+}
+
 /// A tree in which each part that takes memory stands in a list and in an object.
 fn made_tree(alloc: Global, name: &str) -> Result<Tree, AllocError> {
     let lent = tree!(in alloc; [name])?;
-    tree!(in alloc; {"list": ["b", [null], &lent], (name): {"c": 1u8, "d": {}}, "tree": lent})
+    let list = made_list(alloc, &lent)?;
+    tree!(in alloc; {"list": list, (name): made_object(alloc)?, "tree": lent})
 }
 
 /// The text of it.
