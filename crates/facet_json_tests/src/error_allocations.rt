@@ -60,14 +60,14 @@ static ROWS: [(Sample, &str); 31] = [
         "unexpected end of input, expected value",
     ),
     (
-        Sample::Read(DeserializeErrorKind::InvalidUtf8),
-        "invalid UTF-8",
-    ),
-    (
         Sample::Read(DeserializeErrorKind::UnexpectedEof {
             expected: "in string",
         }),
         "unexpected end of input in string",
+    ),
+    (
+        Sample::Read(DeserializeErrorKind::InvalidUtf8),
+        "invalid UTF-8",
     ),
     (
         Sample::Read(DeserializeErrorKind::UnexpectedToken {

@@ -39,6 +39,12 @@ pub static READ: [Row; 17] = [
         "unexpected end of input, expected value",
     ),
     (
+        Sample::Read(DeserializeErrorKind::InvalidUtf8),
+        "json::invalid_utf8",
+        "invalid UTF-8 sequence",
+        "invalid UTF-8",
+    ),
+    (
         Sample::Read(DeserializeErrorKind::UnexpectedEof {
             expected: "in string",
         }),
@@ -71,12 +77,6 @@ pub static READ: [Row; 17] = [
         "json::unexpected_token",
         "unexpected token: got 名, expected größe",
         "expected größe, got '名'",
-    ),
-    (
-        Sample::Read(DeserializeErrorKind::InvalidUtf8),
-        "json::invalid_utf8",
-        "invalid UTF-8 sequence",
-        "invalid UTF-8",
     ),
     (
         Sample::Read(DeserializeErrorKind::InvalidValue {
