@@ -81,7 +81,7 @@ module _ (within : Bool) (v : List ℕ) where
     hard_is i h =
         test-and slashes (bit_or (bit_or quotes slashes / 2) (2 ^ 63)) i
         ∙ ap₂ (λ a b. a && b) (hs i h) (test-or (bit_or quotes slashes / 2) (2 ^ 63) i ∙ ap (λ b. test (bit_or quotes slashes / 2) i || b) (test-top i h)
-            ∙ at_last _ _ i h (λ l. test-half (bit_or quotes slashes) i ∙ test-or quotes slashes (suc i) ∙ ap₂ (λ a b. a || b) (hq (suc i) (omega arith)) (hs (suc i) (omega arith))))
+        ∙ at_last _ _ i h (λ l. test-half (bit_or quotes slashes) i ∙ test-or quotes slashes (suc i) ∙ ap₂ (λ a b. a || b) (hq (suc i) (omega arith)) (hs (suc i) (omega arith))))
 
     pub texts_are : (px : ℕ) → Bits px (λ i. parity quotes (i + 1)) → Bits (bit_xor px (spread within)) (λ i. inside within v (suc i))
     texts_are px hpx i h =
@@ -105,4 +105,4 @@ module _ (within : Bool) (v : List ℕ) where
     still_unmarked w e i h =
         let here = inside-still (λ j hj. (none_set e j hj).0) (suc i) (omega arith) ∙ w in
         test-none i h ∙ sym (ap₂ (λ a b. not (is_calm (byte i) || a) || (b && ((is_quote (get_or v (suc i) 0) || is_backslash (get_or v (suc i) 0)) || (i == 63)))) here (none_set e i h).1
-            ∙ ap (λ a. not a || false) (or-true (is_calm (byte i))))
+        ∙ ap (λ a. not a || false) (or-true (is_calm (byte i))))

@@ -106,9 +106,12 @@ module _ (buffer : List ℕ) (mode : Mode) (settled at : ℕ) (within : Bool) (v
       go (inl l) = absurd (true≢false (sym set ∙ zeros i l))
       go (inr g) =
           let k = i - front in
-          let e : front + k ≡ i = omega arith in
-          (g, sym (ones i g h) ∙ set, subst (λ n. IsPassed buffer mode settled (at + n) (inside within v n)) e
-            (run-passed buffer mode settled at within v room same front k (omega arith) (λ n low high. sym (ones n low (omega arith)) ∙ clear n (omega arith)) p))
+          let e : front + k ≡ i = omega arith in (
+            g,
+            sym (ones i g h) ∙ set,
+            subst (λ n. IsPassed buffer mode settled (at + n) (inside within v n)) e
+                (run-passed buffer mode settled at within v room same front k (omega arith) (λ n low high. sym (ones n low (omega arith)) ∙ clear n (omega arith)) p),
+          )
 
   -- Where no mark is left, the block is passed.
   pub all-passed : (left front : ℕ) → left ≡ 0 → front ≤ 64 → ((j : ℕ) → front ≤ j → j < 64 → test left j ≡ is_marked within v j) →

@@ -152,8 +152,8 @@ module _ (buffer : List ℕ) (mode : Mode) where
   pub settled-there : (settled at b : ℕ) → RunLeadsOn buffer mode settled (at + 1) → slice_get buffer at ≡ Some b → is_digit b ≡ false → Outside buffer mode settled (at + 1)
   settled-there settled at b on here d =
       between on (λ less c there.
-          let e : at + 1 - 1 ≡ at = omega arith in
-          ap is_digit (same_Some _ _ (sym there ∙ ap (slice_get buffer) e ∙ here)) ∙ d)
+      let e : at + 1 - 1 ≡ at = omega arith in
+      ap is_digit (same_Some _ _ (sym there ∙ ap (slice_get buffer) e ∙ here)) ∙ d)
 
   space-passed : (at b : ℕ) → slice_get buffer at ≡ Some b → is_space b ≡ true → RunLeadsOn buffer mode at (at + 1)
   space-passed at b here s =

@@ -22,7 +22,6 @@ use Rattle.facet_json_document.proofs.Runs.RunsPassed.{passed-next}
 use Rattle.facet_json_document.proofs.Runs.PassedRuns.{is-outcome}
 use Rattle.facet_json_reader.proofs.CutsAtPlaces.{IsCut, ends, stands, is_cut, Refuses, is_refused}
 use Rattle.facet_json_parser.specs.RunViews.{EndsRun, IsRunRefused, breaks_off, without_memory, value_expected}
-
 pub use Rattle.facet_json_parser.specs.Inner.Leads.{goes_on, first_token, run_tokens, whole, LeadsTo}
 
 module _ (buffer : List ℕ) (mode : Mode) where

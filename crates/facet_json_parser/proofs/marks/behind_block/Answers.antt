@@ -21,8 +21,7 @@ both : (c : After-new) (mode : Mode) → IsPassed c.args.input.now mode (stop (s
     RunLeadsOn c.args.input.now mode (stop (span_of c.args.passed)) (stop (span_of c.new.result))
     × IsPassed c.args.input.now mode (stop (span_of c.new.result)) c.args.at c.args.within
 both c mode p =
-    let two = c.settled_before-settled.ensures mode (subst (λ n. IsPassed c.args.input.now mode n c.args.at c.args.within) (from c) p) in
-    (
+    let two = c.settled_before-settled.ensures mode (subst (λ n. IsPassed c.args.input.now mode n c.args.at c.args.within) (from c) p) in (
       subst (λ n. RunLeadsOn c.args.input.now mode n (stop (span_of c.new.result))) (sym (from c)) (subst (λ n. RunLeadsOn c.args.input.now mode c.end.result n) (to c) two.0),
       subst (λ n. IsPassed c.args.input.now mode n c.args.at c.args.within) (to c) two.1,
     )

@@ -16,7 +16,7 @@ pub returns-clause-run : goal.returns-clause-run
 returns-clause-run c =
     answers c.args.input.now (mode_of c.args.mode) (container_of c.args.kind) (span_of c.args.first) (span_of c.args.last) c.pass_open.result
     (c.pass_open.ensures.leads (container_of c.args.kind) (span_of c.args.first)
-      (leads-first c.args.input.now (mode_of c.args.mode) c.open_bracket.new.contexts (container_of c.args.kind) (span_of c.args.first) (c.in_ok-open_bracket.ensures ∙ ap (λ s. container_of c.args.kind ∷ s) c.new-contexts.ensures)))
+    (leads-first c.args.input.now (mode_of c.args.mode) c.open_bracket.new.contexts (container_of c.args.kind) (span_of c.args.first) (c.in_ok-open_bracket.ensures ∙ ap (λ s. container_of c.args.kind ∷ s) c.new-contexts.ensures)))
 
 pub returns-in_err-open_bracket-clause-refused : goal.returns-in_err-open_bracket-clause-refused
 returns-in_err-open_bracket-clause-refused c =
