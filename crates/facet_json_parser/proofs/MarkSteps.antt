@@ -1,12 +1,12 @@
 -- What a mark is, and what is left of the marks behind a token.
-use Rattle.std.proofs.Common.{◌≡◌, ℕ, zero, suc, ◌+◌, ◌-◌, ◌*◌, ◌/◌, ◌%◌, ◌^◌, ◌<◌, ◌≤◌, ◌⊎◌, inl, inr, Bool, true, false, not, ◌&&◌, ◌||◌, ◌==◌, List, length, slice_get, get_or, Some, refl, sym, ap, ap₂, subst, ◌∙◌, true≢false, arith, w64}
+use Rattle.std.proofs.Common.{◌≡◌, ℕ, suc, ◌+◌, ◌-◌, ◌/◌, ◌%◌, ◌^◌, ◌<◌, ◌≤◌, ◌⊎◌, inl, inr, Bool, true, false, not, ◌&&◌, ◌||◌, ◌==◌, List, length, slice_get, get_or, Some, refl, sym, ap, subst, ◌∙◌, true≢false, arith, w64}
 use Rattle.std.specs.Int.{bit_at}
-use Rattle.std.proofs.lemmas.Bool.{cases_Bool, cases_lt, eqb-true, or_parts, eq-eqb, ne_eqb}
+use Rattle.std.proofs.lemmas.Bool.{cases_lt, eqb-true, eq-eqb, ne_eqb}
 use Rattle.std.proofs.lemmas.Bool.Decides.{nat_tests}
 use Rattle.std.proofs.lemmas.Nat.Bits.{bit_at-trailing_zeros}
 use lib.Bits.{bit_and}
 use lib.Count.{count_trailing_zeros}
-use Rattle.facet_format.specs.Bytes.{quote, backslash}
+use Rattle.facet_format.specs.Bytes.{backslash}
 use Rattle.facet_json_token.specs.Gap.{Mode}
 use Rattle.facet_json_parser.specs.Inner.Marks.{test, xor, inside, is_quote, is_backslash, is_calm, is_hard, is_marked}
 use Rattle.facet_json_parser.specs.Inner.Passing.{IsPassed, InText, Outside}

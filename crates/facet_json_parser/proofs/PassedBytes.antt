@@ -1,15 +1,15 @@
 -- A byte that needs no look is passed.
-use Rattle.std.proofs.Common.{◌≡◌, ℕ, zero, suc, ◌+◌, ◌-◌, ◌<◌, ◌≤◌, Bool, true, false, cond, ◌==◌, ◌&&◌, ◌||◌, nat_le, List, [], ◌∷◌, length, drop, slice_get, get_or, Option, Some, None, refl, sym, ap, ◌∙◌, true≢false, arith, inl, inr}
+use Rattle.std.proofs.Common.{◌≡◌, ℕ, zero, suc, ◌+◌, ◌-◌, ◌<◌, ◌≤◌, Bool, true, false, ◌==◌, List, [], ◌∷◌, length, drop, slice_get, get_or, Some, refl, sym, ap, ◌∙◌, true≢false, arith, inl, inr}
 use Rattle.std.proofs.lemmas.Bool.{or_right, cases_Bool, eqb-true, ne_eqb}
 use Rattle.std.proofs.lemmas.Bool.Decides.{nat_tests}
 use Rattle.std.proofs.lemmas.Option.{slice_get_within, slice_get-get_or, same_Some}
 use Rattle.facet_format.specs.Bytes.{quote, backslash, dot, minus, slash, lower_e, upper_e, is_digit, is_exponent_mark, is_space}
 use Rattle.facet_format.specs.Bytes as bytes
-use Rattle.facet_format.specs.NumberParts.{parts, parts_len, parts_hint, is_bare, starts_number, digits_len, fraction_len, exponent_len}
+use Rattle.facet_format.specs.NumberParts.{parts, parts_len, is_bare, starts_number, digits_len, fraction_len, exponent_len}
 use Rattle.facet_json_token.specs.Gap.{Mode, plain, jsonc, whole}
 use Rattle.facet_json_token.specs.GapLen.{one_more, piece_len, gap_len}
-use Rattle.facet_json_token.specs.Token.{comma, colon, string, number}
-use Rattle.facet_json_token.specs.Cut.{cut, cut_here, past_gap, content_len, cut_text, token_at, has_backslash}
+use Rattle.facet_json_token.specs.Token.{comma, colon}
+use Rattle.facet_json_token.specs.Cut.{cut_here, past_gap, content_len, cut_text}
 use Rattle.facet_json_token.specs.Shape.{comma_stands, colon_stands}
 use Rattle.facet_json_token.proofs.Gaps.{gap_len-none, piece_len-blank}
 use Rattle.facet_json_token.proofs.GapSteps.{past_gap-piece}

@@ -17,7 +17,7 @@ use Rattle.facet_json_token.specs.Views.{kind_of, cut_of, told_refusal}
 use Rattle.facet_json_document.specs.Language.{lenient}
 use Rattle.facet_json_document.specs.Node.{is_scalar}
 use Rattle.facet_json_document.specs.Run.{opening, one_token}
-use Rattle.facet_json_document.specs.Inner.PassedRun.{leaves, crosses, passing, Outcome, closes, stops, passed}
+use Rattle.facet_json_document.specs.Inner.PassedRun.{leaves, crosses, passing, closes, stops, passed}
 use Rattle.facet_json_document.proofs.Runs.RunsPassed.{passed-next}
 use Rattle.facet_json_document.proofs.Runs.PassedRuns.{is-outcome}
 use Rattle.facet_json_reader.proofs.CutsAtPlaces.{IsCut, ends, stands, is_cut, Refuses, is_refused}

@@ -1,8 +1,7 @@
 -- What a run comes to from where passing it stands.
-use Rattle.std.specs.Prelude.{◌≡◌, ◌≤◌, ℕ, Bool, List, [], ◌∷◌, length, ⊤}
+use Rattle.std.specs.Prelude.{◌≡◌, ℕ, List, [], ◌∷◌, ⊤}
 use Rattle.facet_format.specs.Event.{ContainerKind}
 use Rattle.facet_format.specs.Span.{Span, stop}
-use Rattle.facet_format.specs.Views.{span_of}
 use Rattle.facet_json_token.specs.Gap.{Mode}
 use Rattle.facet_json_token.specs.Token.{Kind, Token}
 use Rattle.facet_json_token.specs.Tokens.{Tokens, next}

@@ -1,5 +1,5 @@
 -- What the bits of two words say of 64 bytes: which of them must be looked at, and behind which a text goes on.
-use Rattle.std.specs.Prelude.{ℕ, zero, suc, ◌+◌, Bool, true, false, not, ◌&&◌, ◌||◌, ◌==◌, nat_le, List, get_or}
+use Rattle.std.specs.Prelude.{ℕ, zero, suc, Bool, true, false, not, ◌&&◌, ◌||◌, ◌==◌, nat_le, List, get_or}
 use Rattle.std.specs.Int.{bit_at}
 use Rattle.facet_format.specs.Bytes.{space, tab, line_feed, carriage_return, quote, comma, backslash}
 

@@ -1,4 +1,3 @@
-use Rattle.facet_json_parser.proofs.PassedBlocks.{run-passed}
 use Rattle.std.proofs.Common.{ℕ, eqb, false, map, ap, ◌∙◌, arith, w8}
 use Rattle.std.proofs.lemmas.Simd.{bitmask_splat}
 use Rattle.std.proofs.lemmas.List.{get_or-map}

@@ -1,5 +1,5 @@
 -- Tokens and bytes are passed as far as they were, or further.
-use Rattle.std.proofs.Common.{◌≡◌, ℕ, ap₂, sym, subst, arith}
+use Rattle.std.proofs.Common.{◌≡◌, ap₂, sym, subst, arith}
 use Rattle.facet_format.specs.Span.{stop, span_at}
 use Rattle.facet_format.specs.Views.{span_of}
 use Rattle.facet_json_token.specs.Gap.{Mode}

@@ -1,5 +1,5 @@
 -- Each mark is an escape, behind which a new block begins, or belongs to a token that is told.
-use Rattle.std.proofs.Common.{◌≡◌, ℕ, suc, ◌+◌, ◌-◌, ◌<◌, ◌≤◌, true, false, Bool, not, ◌==◌, ◌/◌, ◌^◌, List, [], ◌∷◌, Option, Some, None, get_or, length, refl, sym, ap, subst, ◌∙◌, arith}
+use Rattle.std.proofs.Common.{◌≡◌, ◌+◌, ◌-◌, ◌<◌, ◌≤◌, true, false, ◌==◌, ◌/◌, ◌^◌, List, [], ◌∷◌, Option, Some, None, refl, sym, subst, ◌∙◌, arith}
 use lib.Count.{count_trailing_zeros}
 use Rattle.std.proofs.lemmas.Result.{err_from_is_err_and}
 use Rattle.facet_format.specs.Span.{stop}
