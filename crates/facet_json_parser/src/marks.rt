@@ -1,19 +1,16 @@
 //! Passes a container 64 bytes at a time: of each block only the marked bytes are looked at.
 
-ghost use Rattle.std.specs.Prelude.{◌≡◌, ◌≤◌, ◌<◌, ◌+◌, ◌-◌, ◌^◌, ◌==◌, ◌||◌, ℕ, true, false, Bool, suc, length, get_or, slice_get, Some, MatchResult, IfOk};
-ghost use Rattle.facet_format.specs.Event.{ContainerKind as SpecContainer};
-ghost use Rattle.facet_format.specs.Span.{Span as SpecSpan, stop, span_at};
+ghost use Rattle.std.specs.Prelude.{◌≡◌, ◌≤◌, ◌<◌, ◌+◌, ◌-◌, ◌^◌, ◌==◌, ◌||◌, ℕ, true, false, Bool, suc, length, get_or, slice_get, Some, IfOk};
+ghost use Rattle.facet_format.specs.Span.{stop, span_at};
 ghost use Rattle.facet_format.specs.Views.{span_of};
 ghost use Rattle.facet_format.specs.Bytes.{is_digit, backslash, dot, is_exponent_mark};
 ghost use Rattle.facet_json_token.specs.Views.{mode_of};
 ghost use Rattle.facet_json_token.specs.Gap.{Mode as SpecMode};
-ghost use Rattle.facet_json_reader.specs.PlaceViews.{refused_of};
 ghost use Rattle.facet_json_parser.specs.Inner.Marks.{test, inside, is_calm, is_marked};
 ghost use Rattle.facet_json_parser.specs.Inner.Passing.{IsPassed, Outside, InText};
 ghost use Rattle.facet_json_parser.specs.Inner.Quiet.{RunLeadsOn};
-ghost use Rattle.facet_json_parser.specs.Inner.Leads.{LeadsTo, whole, run_tokens, IsOpen};
+ghost use Rattle.facet_json_parser.specs.Inner.Leads.{PassesOn, IsOpen};
 ghost use Rattle.facet_json_parser.specs.Inner.Spots.{IsSpot};
-ghost use Rattle.facet_json_parser.specs.RunViews.{IsRunRefused};
 
 use crate::block::block;
 use crate::run::pass_mark;
@@ -46,9 +43,7 @@ pub(crate) fn pass_blocks(
 ) -> Result<Spot, Refused>
     requires open { IsOpen contexts.old }
     requires within { stop (span_of from) ≤ length input.now }
-    ensures leads { (kind : SpecContainer) (first : SpecSpan) → LeadsTo input.now (mode_of mode) contexts.old (span_of from) (whole input.now (mode_of mode) kind first)
-        → MatchResult result (λ s. LeadsTo input.now (mode_of mode) contexts.new (span_of s.passed) (whole input.now (mode_of mode) kind first))
-        (λ r. IsRunRefused input.now (span_of last) (run_tokens input.now (mode_of mode) kind first) (refused_of r)) }
+    ensures leads { PassesOn input.now (mode_of mode) contexts.old (span_of from) (span_of last) result contexts.new (λ s. span_of s.passed) }
     ensures spot { IfOk result (λ s. IsSpot input.now (mode_of mode) s) }
     ensures onward { IfOk result (λ s. stop (span_of from) ≤ stop (span_of s.passed)) }
 {
@@ -71,9 +66,7 @@ fn pass_block(
     requires open { IsOpen contexts.old }
     requires spot { IsSpot input.now (mode_of mode) spot }
     requires room { spot.at + 64 ≤ length input.now }
-    ensures leads { (kind : SpecContainer) (first : SpecSpan) → LeadsTo input.now (mode_of mode) contexts.old (span_of spot.passed) (whole input.now (mode_of mode) kind first)
-        → MatchResult result (λ s. LeadsTo input.now (mode_of mode) contexts.new (span_of s.passed) (whole input.now (mode_of mode) kind first))
-        (λ r. IsRunRefused input.now (span_of last) (run_tokens input.now (mode_of mode) kind first) (refused_of r)) }
+    ensures leads { PassesOn input.now (mode_of mode) contexts.old (span_of spot.passed) (span_of last) result contexts.new (λ s. span_of s.passed) }
     ensures spot { IfOk result (λ s. IsSpot input.now (mode_of mode) s) }
     ensures onward { IfOk result (λ s. (stop (span_of spot.passed) ≤ stop (span_of s.passed)) × (s.goes_on ≡ true
         → (stop (span_of spot.passed) + spot.at < stop (span_of s.passed) + s.at) × IsOpen contexts.new)) }
@@ -113,9 +106,7 @@ fn pass_marks(
     requires bytes { (i : ℕ) → i < 64 → get_or v i 0 ≡ get_or input.now (spot.at + i) 0 }
     requires marks { (i : ℕ) → i < 64 → test marks i ≡ is_marked spot.within v i }
     requires texts { (i : ℕ) → i < 64 → test texts i ≡ inside spot.within v (suc i) }
-    ensures leads { (kind : SpecContainer) (first : SpecSpan) → LeadsTo input.now (mode_of mode) contexts.old (span_of spot.passed) (whole input.now (mode_of mode) kind first)
-        → MatchResult result (λ s. LeadsTo input.now (mode_of mode) contexts.new (span_of s.passed) (whole input.now (mode_of mode) kind first))
-        (λ r. IsRunRefused input.now (span_of last) (run_tokens input.now (mode_of mode) kind first) (refused_of r)) }
+    ensures leads { PassesOn input.now (mode_of mode) contexts.old (span_of spot.passed) (span_of last) result contexts.new (λ s. span_of s.passed) }
     ensures spot { IfOk result (λ s. IsSpot input.now (mode_of mode) s) }
     ensures onward { IfOk result (λ s. (stop (span_of spot.passed) ≤ stop (span_of s.passed)) × (s.goes_on ≡ true
         → (stop (span_of spot.passed) + spot.at < stop (span_of s.passed) + s.at) × IsOpen contexts.new)) }

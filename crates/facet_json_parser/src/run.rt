@@ -3,7 +3,7 @@
 ghost use Rattle.std.specs.Prelude.{◌≡◌, ◌≤◌, ◌<◌, ◌⊎◌, true, List, [], ◌∷◌, Some, length, IfOk, IfErr, MatchResult};
 ghost use Rattle.facet_format.specs.Cursor.{no_memory_at};
 ghost use Rattle.facet_format.specs.Event.{ContainerKind as SpecContainer};
-ghost use Rattle.facet_format.specs.Span.{Span as SpecSpan, stop, span_at};
+ghost use Rattle.facet_format.specs.Span.{stop, span_at};
 ghost use Rattle.facet_format.specs.Views.{span_of, container_of};
 ghost use Rattle.facet_json_token.specs.Token.{Kind};
 ghost use Rattle.facet_json_token.specs.Cut as spec_cut;
@@ -13,8 +13,8 @@ ghost use Rattle.facet_json_document.specs.Run.{opening};
 ghost use Rattle.facet_json_document.specs.Inner.PassedRun.{leaves, crosses, closing_one, passing};
 ghost use Rattle.facet_json_reader.specs.PlaceViews.{refused_of};
 ghost use Rattle.facet_json_parser.specs.Inner.Quiet.{RunLeadsOn};
-ghost use Rattle.facet_json_parser.specs.Inner.Leads.{LeadsTo, whole, run_tokens, IsOpen};
-ghost use Rattle.facet_json_parser.specs.RunViews.{AnswersRun, IsRunRefused, value_expected};
+ghost use Rattle.facet_json_parser.specs.Inner.Leads.{PassesOn, IsOpen};
+ghost use Rattle.facet_json_parser.specs.RunViews.{AnswersRun, value_expected};
 
 use crate::marks::pass_blocks;
 use crate::quiet::past_quiet;
@@ -95,9 +95,7 @@ fn pass_open(
     last: Span,
 ) -> Result<Span, Refused>
     requires { stop (span_of first) ≤ length input.now }
-    ensures leads { (kind : SpecContainer) (opened : SpecSpan) → LeadsTo input.now (mode_of mode) contexts.old (span_of first) (whole input.now (mode_of mode) kind opened)
-        → MatchResult result (λ s. LeadsTo input.now (mode_of mode) [] (span_of s) (whole input.now (mode_of mode) kind opened))
-        (λ r. IsRunRefused input.now (span_of last) (run_tokens input.now (mode_of mode) kind opened) (refused_of r)) }
+    ensures leads { PassesOn input.now (mode_of mode) contexts.old (span_of first) (span_of last) result [] (λ s. span_of s) }
     ensures onward { IfOk result (λ s. (stop (span_of first) ≤ stop (span_of s)) × (stop (span_of s) ≤ length input.now)) }
 {
     let mut stretch = 128;
@@ -134,9 +132,7 @@ fn pass_tokens(
     last: Span,
 ) -> Result<Span, Refused>
     requires { stop (span_of first) ≤ length input.now }
-    ensures leads { (kind : SpecContainer) (opened : SpecSpan) → LeadsTo input.now (mode_of mode) brackets.old (span_of first) (whole input.now (mode_of mode) kind opened)
-        → MatchResult result (λ s. LeadsTo input.now (mode_of mode) brackets.new (span_of s) (whole input.now (mode_of mode) kind opened))
-        (λ r. IsRunRefused input.now (span_of last) (run_tokens input.now (mode_of mode) kind opened) (refused_of r)) }
+    ensures leads { PassesOn input.now (mode_of mode) brackets.old (span_of first) (span_of last) result brackets.new (λ s. span_of s) }
     ensures onward { IfOk result (λ s. (stop (span_of first) ≤ stop (span_of s)) × (stop (span_of s) ≤ length input.now)) }
     ensures beyond { IfOk result (λ s. IsOpen brackets.new → until < stop (span_of s)) }
 {
@@ -186,9 +182,7 @@ pub(crate) fn pass_mark(
 ) -> Result<Span, Refused>
     requires open { IsOpen contexts.old }
     requires on { RunLeadsOn input.now (mode_of mode) (stop (span_of passed)) from }
-    ensures leads { (kind : SpecContainer) (first : SpecSpan) → LeadsTo input.now (mode_of mode) contexts.old (span_of passed) (whole input.now (mode_of mode) kind first)
-        → MatchResult result (λ s. LeadsTo input.now (mode_of mode) contexts.new (span_of s) (whole input.now (mode_of mode) kind first))
-        (λ r. IsRunRefused input.now (span_of last) (run_tokens input.now (mode_of mode) kind first) (refused_of r)) }
+    ensures leads { PassesOn input.now (mode_of mode) contexts.old (span_of passed) (span_of last) result contexts.new (λ s. span_of s) }
     ensures onward { IfOk result (λ s. (stop (span_of passed) ≤ from) × (from < stop (span_of s)) × (stop (span_of s) ≤ length input.now)) }
 {
     let Some(innermost) = contexts.innermost() else {

@@ -1,5 +1,5 @@
 -- What a run comes to from where passing it stands.
-use Rattle.std.specs.Prelude.{◌≡◌, ℕ, List, [], ◌∷◌, ⊤}
+use Rattle.std.specs.Prelude.{◌≡◌, ℕ, List, [], ◌∷◌, ⊤, Result, MatchResult}
 use Rattle.facet_format.specs.Event.{ContainerKind}
 use Rattle.facet_format.specs.Span.{Span, stop}
 use Rattle.facet_json_token.specs.Gap.{Mode}
@@ -8,6 +8,9 @@ use Rattle.facet_json_token.specs.Tokens.{Tokens, next}
 use Rattle.facet_json_token.specs.TokenList.{tokens_from}
 use Rattle.facet_json_document.specs.Run.{opening}
 use Rattle.facet_json_document.specs.Inner.PassedRun.{Outcome, passed}
+use Rattle.facet_json_reader.specs.PlaceViews.{refused_of}
+use Rattle.facet_json_reader.specs.declared.refusal.Refused.{Refused}
+use Rattle.facet_json_parser.specs.RunViews.{IsRunRefused}
 
 module _ (buffer : List ℕ) (mode : Mode) where
   -- what follows where these brackets are open, and this was the last token
@@ -30,6 +33,15 @@ module _ (buffer : List ℕ) (mode : Mode) where
   pub record LeadsTo (stack : List ContainerKind) (s : Span) (o : Outcome) : Type 0 where
     pub kind : Kind
     pub same : goes_on stack (record { kind = kind; span = s }) ≡ o
+
+  -- Of whichever run it is said before, it is said after: these brackets are open after this token.
+  abbrev pub StaysOn : List ContainerKind → Span → List ContainerKind → Span → Type 0
+  StaysOn stack s now t = (kind : ContainerKind) (first : Span) → LeadsTo stack s (whole kind first) → LeadsTo now t (whole kind first)
+
+  -- The same of a call that passes tokens on, or the run is refused; `last` is what a refusal for memory names.
+  abbrev pub PassesOn : {A : Type 0} → List ContainerKind → Span → Span → Result A Refused → List ContainerKind → (A → Span) → Type 0
+  PassesOn stack s last result now token = (kind : ContainerKind) (first : Span) → LeadsTo stack s (whole kind first) →
+      MatchResult result (λ a. LeadsTo now (token a) (whole kind first)) (λ r. IsRunRefused buffer last (run_tokens kind first) (refused_of r))
 
 -- Some brackets are open.
 abbrev pub IsOpen : List ContainerKind → Type 0

@@ -2,7 +2,8 @@ use Rattle.std.proofs.Common.{ℕ}
 use Rattle.std.proofs.lemmas.Simd.{zip2_splat}
 use lib.Bits.{bit_or}
 use Rattle.facet_json_parser.specs.Inner.Marks.{is_calm}
-use Rattle.facet_json_parser.proofs.Bits.Lanes.{hit, at_most, either, together, ahead, equal, classified}
+use Rattle.facet_format.proofs.Lanes.{equal as hit, at_most, either}
+use Rattle.facet_json_parser.proofs.Bits.Lanes.{together, ahead, equal, classified}
 use Rattle.facet_json_parser.proofs.block.calm.Goals as goal
 
 pub returns : goal.returns

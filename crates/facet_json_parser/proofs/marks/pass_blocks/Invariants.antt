@@ -1,10 +1,9 @@
 -- What the run comes to stays so, and bytes are passed.
 use Rattle.std.proofs.Common.{◌≡◌, ◌≤◌, ◌-◌, ◌+◌, ◌*◌, suc, true, cond, length}
-use Rattle.facet_format.specs.Event.{ContainerKind}
-use Rattle.facet_format.specs.Span.{Span, stop}
+use Rattle.facet_format.specs.Span.{stop}
 use Rattle.facet_format.specs.Views.{span_of}
 use Rattle.facet_json_token.specs.Views.{mode_of}
-use Rattle.facet_json_parser.specs.Inner.Leads.{LeadsTo, whole, IsOpen}
+use Rattle.facet_json_parser.specs.Inner.Leads.{StaysOn, IsOpen}
 use Rattle.facet_json_parser.specs.Inner.Spots.{IsSpot}
 use Rattle.facet_json_parser.proofs.marks.pass_blocks.Given as goal
 
@@ -13,8 +12,7 @@ invariant-loop-spot l = record {
   spot : IsSpot l.input (mode_of l.mode) l.spot;
   is_open : l.spot.goes_on ≡ true → IsOpen l.contexts;
   onward : stop (span_of l.fn.from) ≤ stop (span_of l.spot.passed);
-  leads : (kind : ContainerKind) (first : Span) → LeadsTo l.input (mode_of l.mode) l.fn.contexts (span_of l.fn.from) (whole l.input (mode_of l.mode) kind first)
-      → LeadsTo l.input (mode_of l.mode) l.contexts (span_of l.spot.passed) (whole l.input (mode_of l.mode) kind first);
+  leads : StaysOn l.input (mode_of l.mode) l.fn.contexts (span_of l.fn.from) l.contexts (span_of l.spot.passed);
 }
 
 abbrev pub decreases-loop-spot : goal.decreases-loop-spot
