@@ -61,10 +61,10 @@ kind_code (duplicate_key key) = codes "json::duplicate_key"
 kind_code not_utf8 = codes "json::invalid_utf8"
 kind_code (solver message) = codes "json::solver"
 kind_code (io message) = codes "json::io"
-kind_code (read c) = read_code c
 kind_code (write (writing.misfits misfit)) = codes "json::write"
 kind_code (write writing.out_of_memory) = codes "json::out_of_memory"
 kind_code out_of_memory = codes "json::out_of_memory"
+kind_code (read c) = read_code c
 
 -- ---- texts: the message. None is told of a debug form past ASCII, and of a writer's refusal, which shows its own
 

@@ -41,10 +41,12 @@ abbrev pub is_leaf : Node → Bool
 is_leaf (leaf t) = true
 is_leaf _ = false
 
+-- the name of a member, whose value follows
 abbrev pub is_key : Node → Bool
 is_key (key name) = true
 is_key _ = false
 
+-- what holds others
 abbrev pub is_list : Node → Bool
 is_list (list n) = true
 is_list _ = false

@@ -79,7 +79,7 @@ fn pass_block(
             ..spot
         });
     }
-    pass_marks(contexts, input, mode, spot, v, marks, texts, last)
+    pass_marks(input, mode, spot, v, marks, texts, last, contexts)
 }
 
 /// Whether so many bytes are marked that tokens pass them faster.
@@ -91,7 +91,6 @@ fn is_dense(marks: u64) -> bool {
 /// Passes a block by its marks.
 #[inline(always)]
 fn pass_marks(
-    contexts: &mut Contexts,
     input: &[u8],
     mode: Mode,
     spot: Spot,
@@ -99,6 +98,7 @@ fn pass_marks(
     marks: u64,
     texts: u64,
     last: Span,
+    contexts: &mut Contexts,
 ) -> Result<Spot, Refused>
     requires open { IsOpen contexts.old }
     requires spot { IsSpot input.now (mode_of mode) spot }

@@ -100,12 +100,12 @@ fn pass_open(
 {
     let mut stretch = 128;
     let until = first.end().saturating_add(stretch);
-    let mut passed = pass_tokens(alloc, contexts, input, mode, first, until, last)?;
+    let mut passed = pass_tokens(alloc, input, mode, contexts, first, until, last)?;
     while contexts.innermost().is_some() {
         let spot = pass_blocks(contexts, input, mode, passed, last)?;
         stretch = next_stretch(stretch, spot.at == passed.end());
         let until = spot.at.saturating_add(stretch);
-        passed = pass_tokens(alloc, contexts, input, mode, spot.passed, until, last)?;
+        passed = pass_tokens(alloc, input, mode, contexts, spot.passed, until, last)?;
     }
     Ok(passed)
 }
@@ -124,9 +124,9 @@ fn next_stretch(stretch: usize, stays: bool) -> usize {
 #[inline(never)]
 fn pass_tokens(
     alloc: Global,
-    brackets: &mut Contexts,
     input: &[u8],
     mode: Mode,
+    brackets: &mut Contexts,
     first: Span,
     until: usize,
     last: Span,

@@ -21,10 +21,10 @@ kind_message (DuplicateField name) = Some (codes "duplicate field `" ++ (detail_
 kind_message UnknownField = Some (codes "unknown field")
 kind_message UnknownVariant = Some (codes "unknown variant")
 kind_message InvalidLength = Some (codes "invalid length")
+kind_message (Custom text) = Some (detail_text text)
 kind_message InvalidValue = Some (codes "invalid value")
 kind_message KeyMustBeAString = Some (codes "key must be a string")
 kind_message NotOneValue = Some (codes "not one value")
-kind_message (Custom text) = Some (detail_text text)
 
 -- Of a stream's, where it does not hang on what the stream's own error says.
 abbrev pub stream_message : StreamError → Option (List ℕ)

@@ -6,6 +6,12 @@ use facet_format::DeserializeErrorKind;
 /// Refusals of readers.
 pub static READ: [Row; 17] = [
     (
+        Sample::Read(DeserializeErrorKind::InvalidUtf8),
+        "json::invalid_utf8",
+        "invalid UTF-8 sequence",
+        "invalid UTF-8",
+    ),
+    (
         Sample::Read(DeserializeErrorKind::UnexpectedChar {
             ch: 'x',
             expected: "valid JSON token",
@@ -37,12 +43,6 @@ pub static READ: [Row; 17] = [
         "json::unexpected_eof",
         "unexpected end of input, expected value",
         "unexpected end of input, expected value",
-    ),
-    (
-        Sample::Read(DeserializeErrorKind::InvalidUtf8),
-        "json::invalid_utf8",
-        "invalid UTF-8 sequence",
-        "invalid UTF-8",
     ),
     (
         Sample::Read(DeserializeErrorKind::UnexpectedEof {

@@ -9,8 +9,8 @@ use Rattle.facet_json_parser.proofs.run.pass_open.Given as goal
 
 abbrev pub invariant-loop-alloc : goal.invariant-loop-alloc
 invariant-loop-alloc l = record {
-  ends : stop (span_of l.passed) ≤ length l.input;
   onward : stop (span_of l.fn.first) ≤ stop (span_of l.passed);
+  ends : stop (span_of l.passed) ≤ length l.input;
   leads : StaysOn l.input (mode_of l.mode) l.fn.contexts (span_of l.fn.first) l.contexts (span_of l.passed);
 }
 
