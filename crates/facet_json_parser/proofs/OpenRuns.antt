@@ -9,7 +9,7 @@ use Rattle.facet_format.specs.Span.{Span}
 use Rattle.facet_format.specs.Views.{span_of}
 use Rattle.facet_json_token.specs.Gap.{Mode}
 use Rattle.facet_json_reader.specs.PlaceViews.{innermost_of, refused_of}
-use Rattle.facet_json_parser.specs.Inner.Leads.{LeadsTo, whole, first_token, run_tokens, IsOpen}
+use Rattle.facet_json_parser.specs.Inner.Leads.{RunComesTo, whole, run_opening, run_tokens, AreOpen}
 use Rattle.facet_json_parser.specs.RunViews.{AnswersRun, IsRunRefused}
 use Rattle.facet_json_parser.proofs.RunSteps.{leads-ends}
 
@@ -18,13 +18,13 @@ abbrev pub left_of : List ContainerKind → ℕ → ℕ
 left_of [] n = 0
 left_of (kind ∷ around) n = suc n
 
-pub shrinks : (before after : List ContainerKind) (a b : ℕ) → IsOpen before → (IsOpen after → b < a) → left_of after b < left_of before a
+pub shrinks : (before after : List ContainerKind) (a b : ℕ) → AreOpen before → (AreOpen after → b < a) → left_of after b < left_of before a
 shrinks [] after a b h less = absurd h
 shrinks (kind ∷ around) [] a b h less = omega arith
 shrinks (kind ∷ around) (k ∷ others) a b h less = omega (arith, less tt)
 
 -- An innermost bracket is open.
-pub opened : (o : Option RustContainerKind) (stack : List ContainerKind) → innermost_of o stack → is_some o ≡ true → IsOpen stack
+pub opened : (o : Option RustContainerKind) (stack : List ContainerKind) → innermost_of o stack → is_some o ≡ true → AreOpen stack
 opened None stack h e = cc
 opened (Some kind) stack h e = rw h.1 tt
 
@@ -35,7 +35,7 @@ closed (Some kind) stack h e = cc
 
 -- Where the brackets are closed, the run has ended.
 pub answers : (buffer : List ℕ) (mode : Mode) (kind : ContainerKind) (first last : Span) (r : Result RustSpan Refused) →
-    MatchResult r (λ s. LeadsTo buffer mode [] (span_of s) (whole buffer mode kind first)) (λ e. IsRunRefused buffer last (run_tokens buffer mode kind first) (refused_of e)) →
-    AnswersRun buffer mode (first_token buffer mode kind first) last r
+    MatchResult r (λ s. RunComesTo buffer mode [] (span_of s) (whole buffer mode kind first)) (λ e. IsRunRefused buffer last (run_tokens buffer mode kind first) (refused_of e)) →
+    AnswersRun buffer mode (run_opening buffer mode kind first) last r
 answers buffer mode kind first last (Ok s) l = leads-ends buffer mode [] kind first (span_of s) refl l
 answers buffer mode kind first last (Err e) p = p

@@ -17,7 +17,7 @@ use Rattle.facet_json_document.proofs.Runs.RunsPassed.{passed-next, passed-any}
 use Rattle.facet_json_reader.proofs.TokensThere.{tokens-past_gap, there-fits}
 use Rattle.facet_json_parser.specs.Inner.Quiet.{RunLeadsOn, EndsGap}
 use Rattle.facet_json_parser.proofs.MarksAreCut.{mark-is_cut}
-use Rattle.facet_json_parser.proofs.RunSteps.{LeadsTo, goes_on}
+use Rattle.facet_json_parser.proofs.RunSteps.{RunComesTo, run_goes_on}
 
 -- It opens and closes nothing.
 abbrev pub IsQuiet : Kind → Type 0
@@ -88,16 +88,16 @@ module _ (buffer : List ℕ) (mode : Mode) where
 
   -- What a run comes to stays so after quiet tokens.
   pub leads-on : (stack around : List ContainerKind) (innermost : ContainerKind) (s : Span) (at : ℕ) (o : Outcome) →
-      stack ≡ innermost ∷ around → LeadsTo buffer mode stack s o → RunLeadsOn buffer mode (stop s) at → LeadsTo buffer mode stack (span_at at 0) o
+      stack ≡ innermost ∷ around → RunComesTo buffer mode stack s o → RunLeadsOn buffer mode (stop s) at → RunComesTo buffer mode stack (span_at at 0) o
   leads-on stack around innermost s at o e l on =
       let before : Token = record { kind = l.kind; span = s } in
       let after : Token = record { kind = l.kind; span = span_at at 0 } in
       let here : stop (span_at at 0) ≡ at = omega arith in
       record {
         kind = l.kind;
-        same = ap (λ (brackets : List ContainerKind). goes_on buffer mode brackets after) e
+        same = ap (λ (brackets : List ContainerKind). run_goes_on buffer mode brackets after) e
             ∙ ap (λ (p : ℕ). passed buffer (innermost ∷ around) after (tokens_from buffer mode p)) here
             ∙ sym (on.same innermost around after)
             ∙ passed-any buffer innermost around after before (tokens_from buffer mode (stop s))
-            ∙ ap (λ (brackets : List ContainerKind). goes_on buffer mode brackets before) (sym e) ∙ l.same;
+            ∙ ap (λ (brackets : List ContainerKind). run_goes_on buffer mode brackets before) (sym e) ∙ l.same;
       }

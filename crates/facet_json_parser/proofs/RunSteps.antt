@@ -22,25 +22,25 @@ use Rattle.facet_json_document.proofs.Runs.RunsPassed.{passed-next}
 use Rattle.facet_json_document.proofs.Runs.PassedRuns.{is-outcome}
 use Rattle.facet_json_reader.proofs.CutsAtPlaces.{IsCut, ends, stands, is_cut, Refuses, is_refused}
 use Rattle.facet_json_parser.specs.RunViews.{EndsRun, IsRunRefused, breaks_off, without_memory, value_expected}
-pub use Rattle.facet_json_parser.specs.Inner.Leads.{goes_on, first_token, run_tokens, whole, LeadsTo}
+pub use Rattle.facet_json_parser.specs.Inner.Leads.{run_goes_on, run_opening, run_tokens, whole, RunComesTo}
 
 module _ (buffer : List ℕ) (mode : Mode) where
   pub leads-first : (stack : List ContainerKind) (kind : ContainerKind) (first : Span) → stack ≡ kind ∷ [] →
-      LeadsTo buffer mode stack first (whole buffer mode kind first)
+      RunComesTo buffer mode stack first (whole buffer mode kind first)
   leads-first stack kind first e =
-      record { kind = opening kind; same = ap (λ brackets. goes_on buffer mode brackets (first_token buffer mode kind first)) e }
+      record { kind = opening kind; same = ap (λ brackets. run_goes_on buffer mode brackets (run_opening buffer mode kind first)) e }
 
   -- ---- the end
 
   -- Where no bracket is open any more, the run has ended.
   pub leads-ends : (stack : List ContainerKind) (kind : ContainerKind) (first s : Span) → stack ≡ [] →
-      LeadsTo buffer mode stack s (whole buffer mode kind first) → EndsRun buffer mode (run_tokens buffer mode kind first) s
+      RunComesTo buffer mode stack s (whole buffer mode kind first) → EndsRun buffer mode (run_tokens buffer mode kind first) s
   unfolding passed
   leads-ends stack kind first s e l =
       let last : Token = record { kind = l.kind; span = s } in
       let here : closes last (tokens_from buffer mode (stop s)) ≡ whole buffer mode kind first =
-      sym (ap (λ brackets. goes_on buffer mode brackets last) e) ∙ l.same in
-      record { last = last; is_last = refl; run = rw (← here) at (is-outcome buffer kind (first_token buffer mode kind first) (tokens_from buffer mode (stop first)) refl) }
+      sym (ap (λ brackets. run_goes_on buffer mode brackets last) e) ∙ l.same in
+      record { last = last; is_last = refl; run = rw (← here) at (is-outcome buffer kind (run_opening buffer mode kind first) (tokens_from buffer mode (stop first)) refl) }
 
   -- A scalar ends its own run.
   pub scalar-ends : (kind : Kind) (s : Span) → is_scalar kind ≡ true →
@@ -55,22 +55,22 @@ module _ (buffer : List ℕ) (mode : Mode) where
 
   pub unopened : (kind : ContainerKind) (first last : Span) (refusal : Refusal) → refusal ≡ no_memory_at last →
       IsRunRefused buffer last (run_tokens buffer mode kind first) refusal
-  unopened kind first last refusal e = rw e (without_memory kind (first_token buffer mode kind first) (tokens_from buffer mode (stop first)) refl)
+  unopened kind first last refusal e = rw e (without_memory kind (run_opening buffer mode kind first) (tokens_from buffer mode (stop first)) refl)
 
   -- Where all is stopped, the run breaks off.
   stopped : (kind : ContainerKind) (first last : Span) (refusal : Refusal) → stops refusal ≡ whole buffer mode kind first →
       IsRunRefused buffer last (run_tokens buffer mode kind first) refusal
   stopped kind first last refusal e =
-      breaks_off (run_tokens buffer mode kind first) refusal (rw (← e) at (is-outcome buffer kind (first_token buffer mode kind first) (tokens_from buffer mode (stop first)) refl))
+      breaks_off (run_tokens buffer mode kind first) refusal (rw (← e) at (is-outcome buffer kind (run_opening buffer mode kind first) (tokens_from buffer mode (stop first)) refl))
 
   module _ (kind : ContainerKind) (first last : Span) (innermost : ContainerKind) (around stack : List ContainerKind) (s : Span)
-      (is_stack : stack ≡ innermost ∷ around) (l : LeadsTo buffer mode stack s (whole buffer mode kind first)) where
+      (is_stack : stack ≡ innermost ∷ around) (l : RunComesTo buffer mode stack s (whole buffer mode kind first)) where
     -- what follows, by the tokens that do
     by_tokens : (ts : Tokens) → tokens_from buffer mode (stop s) ≡ ts →
         passed buffer (innermost ∷ around) (record { kind = l.kind; span = s }) ts ≡ whole buffer mode kind first
     by_tokens ts e =
         ap (passed buffer (innermost ∷ around) (record { kind = l.kind; span = s })) (sym e)
-        ∙ ap (λ brackets. goes_on buffer mode brackets (record { kind = l.kind; span = s })) (sym is_stack) ∙ l.same
+        ∙ ap (λ brackets. run_goes_on buffer mode brackets (record { kind = l.kind; span = s })) (sym is_stack) ∙ l.same
 
     -- A fault breaks the run off.
     pub fault-stops : (e : Fault) (refusal : Refusal) → stop s ≤ length buffer → cut_of (Err e) ≡ Some (cut buffer (stop s) mode) →
@@ -91,7 +91,7 @@ module _ (buffer : List ℕ) (mode : Mode) where
       pub record GoesOn (brackets : List ContainerKind) : Type 0 where
         pub past : stop s < stop (span_of t.span)
         pub ends : stop (span_of t.span) ≤ length buffer
-        pub leads : LeadsTo buffer mode brackets (span_of t.span) (whole buffer mode kind first)
+        pub leads : RunComesTo buffer mode brackets (span_of t.span) (whole buffer mode kind first)
 
       goes-on : (brackets : List ContainerKind) → IsCut buffer (stop s) (lenient mode) t → (t.token ≡ code.Eof → ⊥) →
           ((k : Kind) → kind_of t.token ≡ Some k → passing innermost around (span_of t.span) k ≡ leaves brackets) → GoesOn brackets

@@ -9,8 +9,8 @@ ghost use Rattle.facet_json_token.specs.Gap.{Mode as SpecMode};
 ghost use Rattle.facet_json_parser.specs.Inner.Marks.{test, inside, is_calm, is_marked};
 ghost use Rattle.facet_json_parser.specs.Inner.Passing.{IsPassed, Outside, InText};
 ghost use Rattle.facet_json_parser.specs.Inner.Quiet.{RunLeadsOn};
-ghost use Rattle.facet_json_parser.specs.Inner.Leads.{PassesOn, IsOpen};
-ghost use Rattle.facet_json_parser.specs.Inner.Spots.{IsSpot};
+ghost use Rattle.facet_json_parser.specs.Inner.Leads.{PassesOn, AreOpen};
+ghost use Rattle.facet_json_parser.specs.Inner.Passages.{IsPassage};
 
 use crate::block::block;
 use crate::run::pass_mark;
@@ -19,9 +19,9 @@ use facet_json_reader::{Contexts, Refused};
 use facet_json_token::Mode;
 use std::simd::prelude::*;
 
-/// Where passing by blocks stands.
+/// How far a container is passed by blocks.
 #[derive(Clone, Copy, Drop)]
-pub(crate) struct Spot {
+pub(crate) struct Passage {
     /// The last token that was told, or an empty span where one may begin.
     pub(crate) passed: Span,
     /// The offset up to which bytes are passed.
@@ -40,18 +40,18 @@ pub(crate) fn pass_blocks(
     mode: Mode,
     from: Span,
     last: Span,
-) -> Result<Spot, Refused>
-    requires open { IsOpen contexts.old }
+) -> Result<Passage, Refused>
+    requires open { AreOpen contexts.old }
     requires within { stop (span_of from) ≤ length input.now }
     ensures leads { PassesOn input.now (mode_of mode) contexts.old (span_of from) (span_of last) result contexts.new (λ s. span_of s.passed) }
-    ensures spot { IfOk result (λ s. IsSpot input.now (mode_of mode) s) }
+    ensures passage { IfOk result (λ s. IsPassage input.now (mode_of mode) s) }
     ensures onward { IfOk result (λ s. stop (span_of from) ≤ stop (span_of s.passed)) }
 {
-    let mut spot = settled_at(from, true);
-    while spot.goes_on && input.len() - spot.at >= 64 {
-        spot = pass_block(contexts, input, mode, spot, last)?;
+    let mut passage = settled_at(from, true);
+    while passage.goes_on && input.len() - passage.at >= 64 {
+        passage = pass_block(contexts, input, mode, passage, last)?;
     }
-    Ok(spot)
+    Ok(passage)
 }
 
 /// Passes a block, or goes on elsewhere.
@@ -60,26 +60,26 @@ fn pass_block(
     contexts: &mut Contexts,
     input: &[u8],
     mode: Mode,
-    spot: Spot,
+    passage: Passage,
     last: Span,
-) -> Result<Spot, Refused>
-    requires open { IsOpen contexts.old }
-    requires spot { IsSpot input.now (mode_of mode) spot }
-    requires room { spot.at + 64 ≤ length input.now }
-    ensures leads { PassesOn input.now (mode_of mode) contexts.old (span_of spot.passed) (span_of last) result contexts.new (λ s. span_of s.passed) }
-    ensures spot { IfOk result (λ s. IsSpot input.now (mode_of mode) s) }
-    ensures onward { IfOk result (λ s. (stop (span_of spot.passed) ≤ stop (span_of s.passed)) × (s.goes_on ≡ true
-        → (stop (span_of spot.passed) + spot.at < stop (span_of s.passed) + s.at) × IsOpen contexts.new)) }
+) -> Result<Passage, Refused>
+    requires open { AreOpen contexts.old }
+    requires passage { IsPassage input.now (mode_of mode) passage }
+    requires room { passage.at + 64 ≤ length input.now }
+    ensures leads { PassesOn input.now (mode_of mode) contexts.old (span_of passage.passed) (span_of last) result contexts.new (λ s. span_of s.passed) }
+    ensures passage { IfOk result (λ s. IsPassage input.now (mode_of mode) s) }
+    ensures onward { IfOk result (λ s. (stop (span_of passage.passed) ≤ stop (span_of s.passed)) × (s.goes_on ≡ true
+        → (stop (span_of passage.passed) + passage.at < stop (span_of s.passed) + s.at) × AreOpen contexts.new)) }
 {
-    let v = u8x64::from_slice(&input[spot.at..]);
-    let (marks, texts) = block(v, spot.within);
+    let v = u8x64::from_slice(&input[passage.at..]);
+    let (marks, texts) = block(v, passage.within);
     if is_dense(marks) {
-        return Ok(Spot {
+        return Ok(Passage {
             goes_on: false,
-            ..spot
+            ..passage
         });
     }
-    pass_marks(input, mode, spot, v, marks, texts, last, contexts)
+    pass_marks(input, mode, passage, v, marks, texts, last, contexts)
 }
 
 /// Whether so many bytes are marked that tokens pass them faster.
@@ -93,26 +93,26 @@ fn is_dense(marks: u64) -> bool {
 fn pass_marks(
     input: &[u8],
     mode: Mode,
-    spot: Spot,
+    passage: Passage,
     v: u8x64,
     marks: u64,
     texts: u64,
     last: Span,
     contexts: &mut Contexts,
-) -> Result<Spot, Refused>
-    requires open { IsOpen contexts.old }
-    requires spot { IsSpot input.now (mode_of mode) spot }
-    requires room { spot.at + 64 ≤ length input.now }
-    requires bytes { (i : ℕ) → i < 64 → get_or v i 0 ≡ get_or input.now (spot.at + i) 0 }
-    requires marks { (i : ℕ) → i < 64 → test marks i ≡ is_marked spot.within v i }
-    requires texts { (i : ℕ) → i < 64 → test texts i ≡ inside spot.within v (suc i) }
-    ensures leads { PassesOn input.now (mode_of mode) contexts.old (span_of spot.passed) (span_of last) result contexts.new (λ s. span_of s.passed) }
-    ensures spot { IfOk result (λ s. IsSpot input.now (mode_of mode) s) }
-    ensures onward { IfOk result (λ s. (stop (span_of spot.passed) ≤ stop (span_of s.passed)) × (s.goes_on ≡ true
-        → (stop (span_of spot.passed) + spot.at < stop (span_of s.passed) + s.at) × IsOpen contexts.new)) }
+) -> Result<Passage, Refused>
+    requires open { AreOpen contexts.old }
+    requires passage { IsPassage input.now (mode_of mode) passage }
+    requires room { passage.at + 64 ≤ length input.now }
+    requires bytes { (i : ℕ) → i < 64 → get_or v i 0 ≡ get_or input.now (passage.at + i) 0 }
+    requires marks { (i : ℕ) → i < 64 → test marks i ≡ is_marked passage.within v i }
+    requires texts { (i : ℕ) → i < 64 → test texts i ≡ inside passage.within v (suc i) }
+    ensures leads { PassesOn input.now (mode_of mode) contexts.old (span_of passage.passed) (span_of last) result contexts.new (λ s. span_of s.passed) }
+    ensures passage { IfOk result (λ s. IsPassage input.now (mode_of mode) s) }
+    ensures onward { IfOk result (λ s. (stop (span_of passage.passed) ≤ stop (span_of s.passed)) × (s.goes_on ≡ true
+        → (stop (span_of passage.passed) + passage.at < stop (span_of s.passed) + s.at) × AreOpen contexts.new)) }
 {
-    let at = spot.at;
-    let mut passed = spot.passed;
+    let at = passage.at;
+    let mut passed = passage.passed;
     let mut left = marks;
     while left != 0 {
         let place = left.trailing_zeros();
@@ -134,10 +134,10 @@ fn pass_marks(
 
 /// Goes on behind this token.
 #[inline(always)]
-fn settled_at(passed: Span, goes_on: bool) -> Spot
+fn settled_at(passed: Span, goes_on: bool) -> Passage
     ensures { (result.passed ≡ passed) × (result.within ≡ false) × (result.goes_on ≡ goes_on) × (stop (span_of passed) < 2 ^ 64 → result.at ≡ stop (span_of passed)) }
 {
-    Spot {
+    Passage {
         passed,
         at: passed.end(),
         within: false,
@@ -147,22 +147,22 @@ fn settled_at(passed: Span, goes_on: bool) -> Spot
 
 /// Goes on behind the backslash of a text and the byte that it escapes.
 #[inline(always)]
-fn behind_escape(input: &[u8], passed: Span, mark: usize) -> Spot
+fn behind_escape(input: &[u8], passed: Span, mark: usize) -> Passage
     requires { mark < length input.now }
-    ensures spot { (mode : SpecMode) → InText input.now mode (stop (span_of passed)) mark → slice_get input.now mark ≡ Some backslash
-        → IsSpot input.now mode result }
+    ensures passage { (mode : SpecMode) → InText input.now mode (stop (span_of passed)) mark → slice_get input.now mark ≡ Some backslash
+        → IsPassage input.now mode result }
     ensures passed { result.passed ≡ passed }
     ensures onward { result.goes_on ≡ true → mark < result.at }
 {
     if input.len() - mark >= 2 {
-        Spot {
+        Passage {
             passed,
             at: mark + 2,
             within: true,
             goes_on: true,
         }
     } else {
-        Spot {
+        Passage {
             passed,
             at: mark,
             within: true,
@@ -173,16 +173,16 @@ fn behind_escape(input: &[u8], passed: Span, mark: usize) -> Spot
 
 /// Goes on behind a block, from there if no text and no number may go on.
 #[inline(always)]
-fn behind_block(input: &[u8], passed: Span, at: usize, within: bool) -> Spot
+fn behind_block(input: &[u8], passed: Span, at: usize, within: bool) -> Passage
     requires within { (0 < at) × (at ≤ length input.now) }
     requires passed { stop (span_of passed) ≤ at }
-    ensures spot { (mode : SpecMode) → IsPassed input.now mode (stop (span_of passed)) at within → IsSpot input.now mode result }
+    ensures passage { (mode : SpecMode) → IsPassed input.now mode (stop (span_of passed)) at within → IsPassage input.now mode result }
     ensures on { (mode : SpecMode) → IsPassed input.now mode (stop (span_of passed)) at within
         → RunLeadsOn input.now mode (stop (span_of passed)) (stop (span_of result.passed)) × (span_of result.passed ≡ span_at (stop (span_of result.passed)) 0) }
     ensures at { result.at ≡ at }
 {
     let settled = settled_before(input, passed.end(), at, within);
-    Spot {
+    Passage {
         passed: Span::new(settled, 0),
         at,
         within,

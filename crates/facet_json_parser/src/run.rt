@@ -13,7 +13,7 @@ ghost use Rattle.facet_json_document.specs.Run.{opening};
 ghost use Rattle.facet_json_document.specs.Inner.PassedRun.{leaves, crosses, closing_one, passing};
 ghost use Rattle.facet_json_reader.specs.PlaceViews.{refused_of};
 ghost use Rattle.facet_json_parser.specs.Inner.Quiet.{RunLeadsOn};
-ghost use Rattle.facet_json_parser.specs.Inner.Leads.{PassesOn, IsOpen};
+ghost use Rattle.facet_json_parser.specs.Inner.Leads.{PassesOn, AreOpen};
 ghost use Rattle.facet_json_parser.specs.RunViews.{AnswersRun, value_expected};
 
 use crate::marks::pass_blocks;
@@ -102,10 +102,10 @@ fn pass_open(
     let until = first.end().saturating_add(stretch);
     let mut passed = pass_tokens(alloc, input, mode, contexts, first, until, last)?;
     while contexts.innermost().is_some() {
-        let spot = pass_blocks(contexts, input, mode, passed, last)?;
-        stretch = next_stretch(stretch, spot.at == passed.end());
-        let until = spot.at.saturating_add(stretch);
-        passed = pass_tokens(alloc, input, mode, contexts, spot.passed, until, last)?;
+        let passage = pass_blocks(contexts, input, mode, passed, last)?;
+        stretch = next_stretch(stretch, passage.at == passed.end());
+        let until = passage.at.saturating_add(stretch);
+        passed = pass_tokens(alloc, input, mode, contexts, passage.passed, until, last)?;
     }
     Ok(passed)
 }
@@ -134,7 +134,7 @@ fn pass_tokens(
     requires { stop (span_of first) ≤ length input.now }
     ensures leads { PassesOn input.now (mode_of mode) brackets.old (span_of first) (span_of last) result brackets.new (λ s. span_of s) }
     ensures onward { IfOk result (λ s. (stop (span_of first) ≤ stop (span_of s)) × (stop (span_of s) ≤ length input.now)) }
-    ensures beyond { IfOk result (λ s. IsOpen brackets.new → until < stop (span_of s)) }
+    ensures beyond { IfOk result (λ s. AreOpen brackets.new → until < stop (span_of s)) }
 {
     let mut passed = first;
     let mut contexts = mem::replace(brackets, Contexts::new(alloc));
@@ -180,7 +180,7 @@ pub(crate) fn pass_mark(
     from: usize,
     last: Span,
 ) -> Result<Span, Refused>
-    requires open { IsOpen contexts.old }
+    requires open { AreOpen contexts.old }
     requires on { RunLeadsOn input.now (mode_of mode) (stop (span_of passed)) from }
     ensures leads { PassesOn input.now (mode_of mode) contexts.old (span_of passed) (span_of last) result contexts.new (λ s. span_of s) }
     ensures onward { IfOk result (λ s. (stop (span_of passed) ≤ from) × (from < stop (span_of s)) × (stop (span_of s) ≤ length input.now)) }

@@ -14,36 +14,36 @@ use Rattle.facet_json_parser.specs.RunViews.{IsRunRefused}
 
 module _ (buffer : List ℕ) (mode : Mode) where
   -- what follows where these brackets are open, and this was the last token
-  abbrev pub goes_on : List ContainerKind → Token → Outcome
-  goes_on stack last = passed buffer stack last (tokens_from buffer mode (stop last.span))
+  abbrev pub run_goes_on : List ContainerKind → Token → Outcome
+  run_goes_on stack last = passed buffer stack last (tokens_from buffer mode (stop last.span))
 
   -- the token that opens the run
-  abbrev pub first_token : ContainerKind → Span → Token
-  first_token kind s = record { kind = opening kind; span = s }
+  abbrev pub run_opening : ContainerKind → Span → Token
+  run_opening kind s = record { kind = opening kind; span = s }
 
   -- the run's first token, and the others
   abbrev pub run_tokens : ContainerKind → Span → Tokens
-  run_tokens kind first = next (first_token kind first) (tokens_from buffer mode (stop first))
+  run_tokens kind first = next (run_opening kind first) (tokens_from buffer mode (stop first))
 
   -- the run's outcome
   abbrev pub whole : ContainerKind → Span → Outcome
-  whole kind first = goes_on (kind ∷ []) (first_token kind first)
+  whole kind first = run_goes_on (kind ∷ []) (run_opening kind first)
 
   -- Where these brackets are open after a token that takes these bytes, the same outcome follows.
-  pub record LeadsTo (stack : List ContainerKind) (s : Span) (o : Outcome) : Type 0 where
+  pub record RunComesTo (stack : List ContainerKind) (s : Span) (o : Outcome) : Type 0 where
     pub kind : Kind
-    pub same : goes_on stack (record { kind = kind; span = s }) ≡ o
+    pub same : run_goes_on stack (record { kind = kind; span = s }) ≡ o
 
   -- Of whichever run it is said before, it is said after: these brackets are open after this token.
   abbrev pub StaysOn : List ContainerKind → Span → List ContainerKind → Span → Type 0
-  StaysOn stack s now t = (kind : ContainerKind) (first : Span) → LeadsTo stack s (whole kind first) → LeadsTo now t (whole kind first)
+  StaysOn stack s now t = (kind : ContainerKind) (first : Span) → RunComesTo stack s (whole kind first) → RunComesTo now t (whole kind first)
 
   -- The same of a call that passes tokens on, or the run is refused; `last` is what a refusal for memory names.
   abbrev pub PassesOn : {A : Type 0} → List ContainerKind → Span → Span → Result A Refused → List ContainerKind → (A → Span) → Type 0
-  PassesOn stack s last result now token = (kind : ContainerKind) (first : Span) → LeadsTo stack s (whole kind first) →
-      MatchResult result (λ a. LeadsTo now (token a) (whole kind first)) (λ r. IsRunRefused buffer last (run_tokens kind first) (refused_of r))
+  PassesOn stack s last result now token = (kind : ContainerKind) (first : Span) → RunComesTo stack s (whole kind first) →
+      MatchResult result (λ a. RunComesTo now (token a) (whole kind first)) (λ r. IsRunRefused buffer last (run_tokens kind first) (refused_of r))
 
 -- Some brackets are open.
-abbrev pub IsOpen : List ContainerKind → Type 0
-IsOpen [] = ⊥
-IsOpen (kind ∷ around) = ⊤
+abbrev pub AreOpen : List ContainerKind → Type 0
+AreOpen [] = ⊥
+AreOpen (kind ∷ around) = ⊤

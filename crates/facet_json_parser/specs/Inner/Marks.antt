@@ -1,7 +1,8 @@
 -- What the bits of two words say of 64 bytes: which of them must be looked at, and behind which a text goes on.
 use Rattle.std.specs.Prelude.{ℕ, zero, suc, Bool, true, false, not, ◌&&◌, ◌||◌, ◌==◌, nat_le, List, get_or}
 use Rattle.std.specs.Int.{bit_at}
-use Rattle.facet_format.specs.Bytes.{space, tab, line_feed, carriage_return, quote, comma, backslash}
+use Rattle.facet_format.specs.Bytes.{space, tab, line_feed, carriage_return, quote, comma}
+pub use Rattle.facet_json_token.specs.Inner.Run.{is_backslash}
 
 abbrev pub xor : Bool → Bool → Bool
 xor true b = not b
@@ -18,9 +19,6 @@ parity x (suc i) = xor (parity x i) (test x i)
 
 abbrev pub is_quote : ℕ → Bool
 is_quote b = b == quote
-
-abbrev pub is_backslash : ℕ → Bool
-is_backslash b = b == backslash
 
 -- white space, a comma, a colon, a digit or a quote: outside of texts these need no look
 abbrev pub is_calm : ℕ → Bool

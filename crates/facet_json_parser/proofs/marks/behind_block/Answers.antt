@@ -26,9 +26,9 @@ both c mode p =
       subst (λ n. IsPassed c.args.input.now mode n c.args.at c.args.within) (to c) two.1,
     )
 
-pub returns-clause-spot : goal.returns-clause-spot
-returns-clause-spot c = λ mode p.
-    let two = both (goal.at.returns-clause-spot c).After-new mode p in
+pub returns-clause-passage : goal.returns-clause-passage
+returns-clause-passage c = λ mode p.
+    let two = both (goal.at.returns-clause-passage c).After-new mode p in
     (omega (arith, c.requires.within), passed-past c.args.input.now mode (stop (span_of c.new.result)) c.args.at c.args.within two.1, two.1)
 
 pub returns-clause-on : goal.returns-clause-on

@@ -13,13 +13,13 @@ use Rattle.facet_format.specs.declared.event.ContainerKind.{ContainerKind as Rus
 use Rattle.facet_format.specs.Event.{ContainerKind}
 use Rattle.std.specs.Option.{is_some}
 use Rattle.facet_json_reader.specs.PlaceViews.{innermost_of}
-use Rattle.facet_json_parser.specs.Inner.Leads.{IsOpen}
+use Rattle.facet_json_parser.specs.Inner.Leads.{AreOpen}
 use Rattle.facet_json_parser.proofs.QuietTokens.{leads-on}
 use Rattle.facet_json_parser.proofs.marks.pass_marks.Goals as goal
 use Rattle.facet_json_parser.proofs.marks.pass_marks.Goals.{After-behind_block}
 
 -- the innermost of open brackets, and those around it
-opened-as : (stack : List ContainerKind) → IsOpen stack → (innermost : ContainerKind) × (around : List ContainerKind) × (stack ≡ innermost ∷ around)
+opened-as : (stack : List ContainerKind) → AreOpen stack → (innermost : ContainerKind) × (around : List ContainerKind) × (stack ≡ innermost ∷ around)
 opened-as [] h = absurd h
 opened-as (kind ∷ around) h = (kind, around, refl)
 
@@ -30,7 +30,7 @@ loop-left-init c = record {
   low = omega arith;
   zeros = λ i h. absurd (omega (arith, h));
   ones = λ i le h. c.requires.marks i h;
-  bytes = start-bytes c.args.input.now (mode_of c.args.mode) (stop (span_of c.args.spot.passed)) c.args.spot.at c.args.spot.within c.args.v c.requires.room c.requires.bytes c.requires.spot.2;
+  bytes = start-bytes c.args.input.now (mode_of c.args.mode) (stop (span_of c.args.passage.passed)) c.args.passage.at c.args.passage.within c.args.v c.requires.room c.requires.bytes c.requires.passage.2;
   onward = omega arith;
   leads = λ kind first l. l;
 }
@@ -38,15 +38,15 @@ loop-left-init c = record {
 pub returns-then-texts-place-eq1-clause-leads : goal.returns-then-texts-place-eq1-clause-leads
 returns-then-texts-place-eq1-clause-leads c = λ kind first l. rw c.behind_escape.ensures.passed (c.loop-left.invariant.leads kind first l)
 
-pub returns-then-texts-place-eq1-clause-spot : goal.returns-then-texts-place-eq1-clause-spot
-returns-then-texts-place-eq1-clause-spot c =
+pub returns-then-texts-place-eq1-clause-passage : goal.returns-then-texts-place-eq1-clause-passage
+returns-then-texts-place-eq1-clause-passage c =
     let l = c.loop-left in
     let i = l.invariant in
     let place = count_trailing_zeros 64 l.left in
-    let m = next-mark c.args.input.now (mode_of c.args.mode) (stop (span_of l.passed)) c.args.spot.at c.args.spot.within c.args.v c.requires.room c.requires.bytes l.left i.front i.zeros i.ones (omega (arith, c.loop-left-test.true)) l.auto.left-fits.fits i.bytes in
+    let m = next-mark c.args.input.now (mode_of c.args.mode) (stop (span_of l.passed)) c.args.passage.at c.args.passage.within c.args.v c.requires.room c.requires.bytes l.left i.front i.zeros i.ones (omega (arith, c.loop-left-test.true)) l.auto.left-fits.fits i.bytes in
     let w = sym (c.requires.texts place m.0) ∙ test-one c.args.texts place c.if-texts-place-eq1.true in
-    let t = text-there c.args.input.now (mode_of c.args.mode) (stop (span_of l.passed)) c.args.spot.at c.args.spot.within c.args.v c.requires.room c.requires.bytes place m.0 m.2 w m.3 in
-    c.behind_escape.ensures.spot (mode_of c.args.mode) t.0 t.1
+    let t = text-there c.args.input.now (mode_of c.args.mode) (stop (span_of l.passed)) c.args.passage.at c.args.passage.within c.args.v c.requires.room c.requires.bytes place m.0 m.2 w m.3 in
+    c.behind_escape.ensures.passage (mode_of c.args.mode) t.0 t.1
 
 pub returns-then-texts-place-eq1-clause-onward : goal.returns-then-texts-place-eq1-clause-onward
 returns-then-texts-place-eq1-clause-onward c =
@@ -57,12 +57,12 @@ pass_mark-requires-clause-on c =
     let l = c.loop-left in
     let i = l.invariant in
     let place = count_trailing_zeros 64 l.left in
-    let m = next-mark c.args.input.now (mode_of c.args.mode) (stop (span_of l.passed)) c.args.spot.at c.args.spot.within c.args.v c.requires.room c.requires.bytes l.left i.front i.zeros i.ones (omega (arith, c.loop-left-test.true)) l.auto.left-fits.fits i.bytes in
+    let m = next-mark c.args.input.now (mode_of c.args.mode) (stop (span_of l.passed)) c.args.passage.at c.args.passage.within c.args.v c.requires.room c.requires.bytes l.left i.front i.zeros i.ones (omega (arith, c.loop-left-test.true)) l.auto.left-fits.fits i.bytes in
     let w = sym (c.requires.texts place m.0) ∙ test-other c.args.texts place c.if-texts-place-eq1.false in
-    let t = token-there c.args.input.now (mode_of c.args.mode) (stop (span_of l.passed)) c.args.spot.at c.args.spot.within c.args.v c.requires.room c.requires.bytes place m.0 m.2 w m.3 in
-    let past = passed-past c.args.input.now (mode_of c.args.mode) (stop (span_of l.passed)) (c.args.spot.at + place) false t.0 in
+    let t = token-there c.args.input.now (mode_of c.args.mode) (stop (span_of l.passed)) c.args.passage.at c.args.passage.within c.args.v c.requires.room c.requires.bytes place m.0 m.2 w m.3 in
+    let past = passed-past c.args.input.now (mode_of c.args.mode) (stop (span_of l.passed)) (c.args.passage.at + place) false t.0 in
     let fit : c.end.result ≡ stop (span_of l.passed) = c.end.ensures.fits (omega (arith, past, m.0, c.requires.room)) in
-    let on = c.token_start-from.ensures.on (mode_of c.args.mode) (subst (λ n. Outside c.args.input.now (mode_of c.args.mode) n (c.args.spot.at + place)) (sym fit) t.0) t.1 in
+    let on = c.token_start-from.ensures.on (mode_of c.args.mode) (subst (λ n. Outside c.args.input.now (mode_of c.args.mode) n (c.args.passage.at + place)) (sym fit) t.0) t.1 in
     subst (λ n. RunLeadsOn c.args.input.now (mode_of c.args.mode) n c.token_start-from.result) fit on
 
 pub returns-in_err-passed-clause-leads : goal.returns-in_err-passed-clause-leads
@@ -74,7 +74,7 @@ pub returns-then-not-goes_on-clause-leads : goal.returns-then-not-goes_on-clause
 returns-then-not-goes_on-clause-leads c = λ kind first l. rw c.settled_at.ensures.0 (c.in_ok-passed.ensures.leads kind first (c.loop-left.invariant.leads kind first l))
 
 -- An innermost bracket is open.
-opened : (o : Option RustContainerKind) (stack : List ContainerKind) → innermost_of o stack → is_some o ≡ true → IsOpen stack
+opened : (o : Option RustContainerKind) (stack : List ContainerKind) → innermost_of o stack → is_some o ≡ true → AreOpen stack
 opened None stack h e = cc
 opened (Some kind) stack h e = rw h.1 tt
 
@@ -101,14 +101,14 @@ loop-left-preserved c =
     let i = l.invariant in
     let on = c.in_ok-passed.ensures.onward in
     let place = count_trailing_zeros 64 l.left in
-    let m = next-mark c.args.input.now (mode_of c.args.mode) (stop (span_of l.passed)) c.args.spot.at c.args.spot.within c.args.v c.requires.room c.requires.bytes l.left i.front i.zeros i.ones (omega (arith, c.loop-left-test.true)) l.auto.left-fits.fits i.bytes in
-    let k = c.end-in-loop-left.result - c.args.spot.at in
+    let m = next-mark c.args.input.now (mode_of c.args.mode) (stop (span_of l.passed)) c.args.passage.at c.args.passage.within c.args.v c.requires.room c.requires.bytes l.left i.front i.zeros i.ones (omega (arith, c.loop-left-test.true)) l.auto.left-fits.fits i.bytes in
+    let k = c.end-in-loop-left.result - c.args.passage.at in
     let fit : c.end-in-loop-left.result ≡ stop (span_of c.in_ok-passed.passed) = c.end-in-loop-left.ensures.fits (omega (arith, on.2)) in
     let far : place ≤ k = omega (arith, fit, on.1, c.token_start-from.ensures.near) in
     let some : 0 < k = omega (arith, c.if-behind-eq0.false) in
     let short : k < 64 = omega (arith, c.if-behind-ge64.false) in
-    let there : c.args.spot.at + k ≡ stop (span_of c.in_ok-passed.passed) = omega (arith, fit, some) in
-    let none = outside-behind c.args.input.now (mode_of c.args.mode) (stop (span_of l.passed)) c.args.spot.at c.args.spot.within c.args.v c.requires.room c.requires.bytes c.args.texts k some short c.requires.texts c.if-texts-behind-eq1.false in
+    let there : c.args.passage.at + k ≡ stop (span_of c.in_ok-passed.passed) = omega (arith, fit, some) in
+    let none = outside-behind c.args.input.now (mode_of c.args.mode) (stop (span_of l.passed)) c.args.passage.at c.args.passage.within c.args.v c.requires.room c.requires.bytes c.args.texts k some short c.requires.texts c.if-texts-behind-eq1.false in
     record {
       is_open = opened c.innermost.result c.pass_mark.new.contexts c.innermost.ensures (sym c.is_some-goes_on.ensures ∙ c.if-not-goes_on.false);
       front = k;
@@ -123,16 +123,16 @@ loop-left-preserved c =
 pub behind_block-requires-clause-passed : goal.behind_block-requires-clause-passed
 behind_block-requires-clause-passed c =
     let i = c.loop-left.invariant in
-    omega (arith, i.low, passed-past c.args.input.now (mode_of c.args.mode) (stop (span_of c.loop-left.passed)) (c.args.spot.at + i.front) _ i.bytes)
+    omega (arith, i.low, passed-past c.args.input.now (mode_of c.args.mode) (stop (span_of c.loop-left.passed)) (c.args.passage.at + i.front) _ i.bytes)
 
 -- The whole block is passed.
-whole_block : (c : After-behind_block) → IsPassed c.args.input.now (mode_of c.args.mode) (stop (span_of c.loop-left.passed)) (c.args.spot.at + 64) (c.args.texts / 2 ^ 63 == 1)
+whole_block : (c : After-behind_block) → IsPassed c.args.input.now (mode_of c.args.mode) (stop (span_of c.loop-left.passed)) (c.args.passage.at + 64) (c.args.texts / 2 ^ 63 == 1)
 whole_block c =
     let l = c.loop-left in
     let i = l.invariant in
-    let p = all-passed c.args.input.now (mode_of c.args.mode) (stop (span_of l.passed)) c.args.spot.at c.args.spot.within c.args.v c.requires.room c.requires.bytes l.left i.front (omega (arith, c.loop-left-test.false)) i.low i.ones i.bytes in
-    let w = last-text c.args.input.now (mode_of c.args.mode) (stop (span_of l.passed)) c.args.spot.at c.args.spot.within c.args.v c.requires.room c.requires.bytes c.args.texts c.ranges.texts.fits c.requires.texts in
-    subst (IsPassed c.args.input.now (mode_of c.args.mode) (stop (span_of l.passed)) (c.args.spot.at + 64)) (sym w) p
+    let p = all-passed c.args.input.now (mode_of c.args.mode) (stop (span_of l.passed)) c.args.passage.at c.args.passage.within c.args.v c.requires.room c.requires.bytes l.left i.front (omega (arith, c.loop-left-test.false)) i.low i.ones i.bytes in
+    let w = last-text c.args.input.now (mode_of c.args.mode) (stop (span_of l.passed)) c.args.passage.at c.args.passage.within c.args.v c.requires.room c.requires.bytes c.args.texts c.ranges.texts.fits c.requires.texts in
+    subst (IsPassed c.args.input.now (mode_of c.args.mode) (stop (span_of l.passed)) (c.args.passage.at + 64)) (sym w) p
 
 pub returns-clause-leads : goal.returns-clause-leads
 returns-clause-leads c = λ kind first d.
@@ -141,8 +141,8 @@ returns-clause-leads c = λ kind first d.
     let stack = opened-as l.contexts l.invariant.is_open in
     rw on.1 (leads-on c.args.input.now (mode_of c.args.mode) l.contexts stack.1 stack.0 (span_of l.passed) (stop (span_of c.behind_block.result.passed)) _ stack.2 (l.invariant.leads kind first d) on.0)
 
-pub returns-clause-spot : goal.returns-clause-spot
-returns-clause-spot c = c.behind_block.ensures.spot (mode_of c.args.mode) (whole_block (goal.at.returns-clause-spot c).After-behind_block)
+pub returns-clause-passage : goal.returns-clause-passage
+returns-clause-passage c = c.behind_block.ensures.passage (mode_of c.args.mode) (whole_block (goal.at.returns-clause-passage c).After-behind_block)
 
 pub returns-clause-onward : goal.returns-clause-onward
 returns-clause-onward c =

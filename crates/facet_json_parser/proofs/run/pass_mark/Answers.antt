@@ -7,7 +7,7 @@ use Rattle.facet_format.specs.Views.{span_of, container_of}
 use Rattle.facet_json_token.specs.Views.{mode_of}
 use Rattle.facet_json_document.specs.Language.{lenient}
 use Rattle.facet_json_reader.proofs.CutsAtPlaces.{ends, stands, is_cut}
-use Rattle.facet_json_parser.specs.Inner.Leads.{LeadsTo, whole}
+use Rattle.facet_json_parser.specs.Inner.Leads.{RunComesTo, whole}
 use Rattle.facet_json_parser.proofs.RunSteps.{fault-stops, token-goes_on, token-stops}
 use Rattle.facet_json_parser.proofs.QuietTokens.{leads-on}
 use Rattle.facet_json_parser.proofs.run.pass_mark.Goals as goal
@@ -15,8 +15,8 @@ use Rattle.facet_json_parser.proofs.run.pass_mark.Goals.{After-next_token}
 
 -- The run goes on from there.
 leads : (c : After-next_token) (kind : ContainerKind) (first : Span) →
-    LeadsTo c.args.input.now (mode_of c.args.mode) c.args.contexts.now (span_of c.args.passed) (whole c.args.input.now (mode_of c.args.mode) kind first) →
-    LeadsTo c.args.input.now (mode_of c.args.mode) c.args.contexts.now (span_at c.args.from 0) (whole c.args.input.now (mode_of c.args.mode) kind first)
+    RunComesTo c.args.input.now (mode_of c.args.mode) c.args.contexts.now (span_of c.args.passed) (whole c.args.input.now (mode_of c.args.mode) kind first) →
+    RunComesTo c.args.input.now (mode_of c.args.mode) c.args.contexts.now (span_at c.args.from 0) (whole c.args.input.now (mode_of c.args.mode) kind first)
 leads c kind first l =
     leads-on c.args.input.now (mode_of c.args.mode) c.args.contexts.now c.in-Some.ensures.0 (container_of c.in-Some.innermost) (span_of c.args.passed) c.args.from _ c.in-Some.ensures.1 l c.requires.on
 

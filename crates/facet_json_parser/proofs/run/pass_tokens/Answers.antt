@@ -7,7 +7,7 @@ use Rattle.facet_format.specs.Views.{span_of, container_of}
 use Rattle.facet_json_token.specs.Views.{mode_of}
 use Rattle.facet_json_document.specs.Language.{lenient}
 use Rattle.facet_json_reader.proofs.CutsAtPlaces.{ends, stands, is_cut}
-use Rattle.facet_json_parser.specs.Inner.Leads.{LeadsTo, whole}
+use Rattle.facet_json_parser.specs.Inner.Leads.{RunComesTo, whole}
 use Rattle.facet_json_parser.proofs.RunSteps.{fault-stops, token-goes_on, token-stops}
 use Rattle.facet_json_parser.proofs.QuietTokens.{leads-on}
 use Rattle.facet_json_parser.proofs.run.pass_tokens.Goals as goal
@@ -26,8 +26,8 @@ token_beyond-token-requires c =
 
 -- The tokens up to where one was cut lead there.
 leads : (c : After-token_beyond-token) (kind : ContainerKind) (opened : Span) →
-    LeadsTo c.args.input.now (mode_of c.args.mode) c.args.brackets.now (span_of c.args.first) (whole c.args.input.now (mode_of c.args.mode) kind opened) →
-    LeadsTo c.args.input.now (mode_of c.args.mode) c.loop-innermost.contexts (span_at c.token_beyond-token.result.0 0) (whole c.args.input.now (mode_of c.args.mode) kind opened)
+    RunComesTo c.args.input.now (mode_of c.args.mode) c.args.brackets.now (span_of c.args.first) (whole c.args.input.now (mode_of c.args.mode) kind opened) →
+    RunComesTo c.args.input.now (mode_of c.args.mode) c.loop-innermost.contexts (span_at c.token_beyond-token.result.0 0) (whole c.args.input.now (mode_of c.args.mode) kind opened)
 leads c kind opened d =
     let l = c.loop-innermost in
     let behind = c.end-in-Some.ensures.fits (omega (arith, l.invariant.ends)) in
