@@ -11,7 +11,7 @@ ghost use Rattle.facet_json_core.specs.Refusing.{mismatch_of, TellsRefusal};
 ghost use Rattle.facet_json_core.specs.Meaning.Nodes.{KeepsOn};
 ghost use Rattle.facet_json_tree.specs.Inner.PointerParts.{unescaped};
 ghost use Rattle.facet_json_tree.specs.Pointer.{IsPointer, index};
-ghost use Rattle.facet_json_tree.specs.PointerViews.{Refuses};
+ghost use Rattle.facet_json_tree.specs.PointerViews.{RefusesPointer};
 ghost use Rattle.facet_json_tree.specs.Same.{same_bytes};
 ghost use Rattle.facet_json_facet.specs.Finding.{FindsKey, LacksMembers};
 ghost use Rattle.facet_json.specs.Inner.Pointing.{begun_by, FindsChild, FindsItem, LacksItems, less_one, zero_is};
@@ -51,7 +51,7 @@ use std::borrow::CowStr;
 /// - `Read`: as `next_of_value`, `next_name` and `pass_value`; and where no value comes, a mismatch.
 pub fn find_pointer<'t>(parser: &mut JsonParser<'_>, pointer: &str) -> Result<bool, FindError<'t>>
     ensures finds { IfOk result (λ is. FindsPointed pointer.now parser.old is parser.new) }
-    ensures refuses { IfErr result (λ e. IfPointer e (λ p. Refuses pointer.now p × (parser.new ≡ parser.old))) }
+    ensures refuses { IfErr result (λ e. IfPointer e (λ p. RefusesPointer pointer.now p × (parser.new ≡ parser.old))) }
     ensures lacks { IfErr result (λ e. IfRead e (LacksPointed pointer.now parser.old)) }
     ensures keeps { KeepsOn parser.old parser.new }
     ensures within { IfErr result (λ e. IfRead e (RefusalWithin parser.new.buffer)) }

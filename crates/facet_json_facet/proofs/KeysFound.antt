@@ -25,7 +25,7 @@ use Rattle.facet_json_core.proofs.Meaning.Objects.MembersOnWalk.{AtMembers, at-k
 use Rattle.facet_json_core.proofs.Meaning.OneValue.WithinValues.{inside-value}
 use Rattle.facet_json_core.proofs.Meaning.WalkPlaces.{drop-node, drop-suc}
 use Rattle.facet_json_core.proofs.Meaning.Walks.NextOnWalk.{goes-keeps}
-use Rattle.facet_json_facet.specs.Finding.{is_named, from_key, walk_from, StandsAmong, FindsKey, LacksMembers, PassesNextKey, PassesOthers, no_other, one_more}
+use Rattle.facet_json_facet.specs.Finding.{names_key, from_key, walk_from, StandsAmong, FindsKey, LacksMembers, PassesNextKey, PassesOthers, no_other, one_more}
 use Rattle.facet_json_facet.proofs.TakenNext.{stays-put}
 
 -- ---- one member on a walk
@@ -126,7 +126,7 @@ module _ (name : List ℕ) where
       text_in_tree (meaning buffer key) ≡ Some text → bytes_eq text name ≡ is →
       from_key name buffer (member key mark value rest) ≡ (if is then member key mark value rest else from_key name buffer rest)
   key-decides buffer key mark value rest text is named decided =
-      ap (λ o. if is_named name o then member key mark value rest else from_key name buffer rest) named
+      ap (λ o. if names_key name o then member key mark value rest else from_key name buffer rest) named
       ∙ ap (λ b. if b then member key mark value rest else from_key name buffer rest) decided
 
   other-text : (text : List ℕ) → bytes_eq text name ≡ false → text ≢ name

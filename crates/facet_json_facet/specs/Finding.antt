@@ -21,15 +21,15 @@ use Rattle.facet_json_core.specs.Meaning.OneValue.{PassesValue}
 -- ---- on a walk
 
 -- whether this is the text of a key
-abbrev pub is_named : List ℕ → Option (List ℕ) → Bool
-is_named name None = false
-is_named name (Some text) = bytes_eq text name
+abbrev pub names_key : List ℕ → Option (List ℕ) → Bool
+names_key name None = false
+names_key name (Some text) = bytes_eq text name
 
 -- the first of the members whose key has this text, and those after it, or none
 abbrev pub from_key : List ℕ → List ℕ → Members → Members
 from_key name buffer no_members = no_members
 from_key name buffer (member key mark value members) =
-    if is_named name (text_in_tree (meaning buffer key)) then member key mark value members else from_key name buffer members
+    if names_key name (text_in_tree (meaning buffer key)) then member key mark value members else from_key name buffer members
 
 -- the events of these members, of the bracket that closes their object, and the others
 abbrev pub walk_from : List ℕ → Members → Token → List Passed → List Passed

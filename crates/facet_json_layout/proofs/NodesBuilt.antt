@@ -10,21 +10,21 @@ use Rattle.facet_json_document.specs.Tree.{Tree, Trees, no_trees, tree, Pairs, n
 use Rattle.facet_json_document.specs.Tree as trees
 use Rattle.facet_json_document.proofs.WalkComes.{events_before-append, events_before-same}
 use Rattle.facet_json_layout.specs.Nodes.{Node, leaf, key, list, object, closing, nothing, inner_len, is_closing_node, items, members, value_beginning, values, value_at}
-use Rattle.facet_json_layout.specs.Inner.Building.{Nodes, added, all_added, also, begun, ended_by, none_yet}
+use Rattle.facet_json_layout.specs.Inner.Building.{NodesSoFar, added, all_added, also, begun, ended_by, none_yet}
 use Rattle.facet_json_layout.proofs.NodeTables.{items-first, members-first, values-past}
 
 -- ---- nodes after nodes
 
-pub added-append : (a b : List Passed) (s : Nodes) → all_added (a ++ b) s ≡ all_added b (all_added a s)
+pub added-append : (a b : List Passed) (s : NodesSoFar) → all_added (a ++ b) s ≡ all_added b (all_added a s)
 added-append [] b s = refl
 added-append (p ∷ a) b s = added-append a b (added p.event.kind s)
 
 -- These nodes are added, and the same containers are open.
-abbrev pub after : Nodes → List Node → Nodes
+abbrev pub after : NodesSoFar → List Node → NodesSoFar
 after s own = record { nodes = s.nodes ++ own; unclosed = s.unclosed }
 
 -- these containers are open, the first the innermost
-abbrev within : List Node → ℕ → List ℕ → Nodes
+abbrev within : List Node → ℕ → List ℕ → NodesSoFar
 within nodes start others = record { nodes = nodes; unclosed = start ∷ others }
 
 -- ---- what is built
@@ -37,7 +37,7 @@ pub record BuildsValue (f : Future) (t : Tree) (rest : Future) : Type 0 where
   pub own : List Node
   pub size : inner_len first ≡ length own
   pub begins : is_closing_node first ≡ false
-  pub builds : (s : Nodes) → all_added events s ≡ after s (first ∷ own)
+  pub builds : (s : NodesSoFar) → all_added events s ≡ after s (first ∷ own)
   pub tells : (more : List Node) → value_beginning first (values (own ++ more)) ≡ t
 
 -- The events of what a container holds come, up to its end, and add these nodes to it.
@@ -58,7 +58,7 @@ BuildsMembers = BuildsHeld object (members 0)
 -- ---- containers
 
 -- A container that was begun ends, and its node tells how many are its own.
-container-ends : (container : ℕ → Node) (s : Nodes) (n : Node) (own : List Node) →
+container-ends : (container : ℕ → Node) (s : NodesSoFar) (n : Node) (own : List Node) →
     ended_by container ((s.nodes ++ n ∷ []) ++ own) (length s.nodes ∷ s.unclosed)
     ≡ after s (container (suc (length own)) ∷ own ++ closing ∷ [])
 container-ends container s n own =
@@ -75,7 +75,7 @@ container-ends container s n own =
 module _ {X : Type 0} (container : ℕ → Node) (held : List (Node × Tree) → X) (whole : X → Tree)
     (size : (n : ℕ) → inner_len (container n) ≡ n) (begins : (n : ℕ) → is_closing_node (container n) ≡ false)
     (tells : (n : ℕ) (later : List (Node × Tree)) → value_beginning (container n) later ≡ whole (held later)) where
-  builds-container : {p : Passed} {f rest : Future} {x : X} → ((s : Nodes) → added p.event.kind s ≡ begun (container 0) s) →
+  builds-container : {p : Passed} {f rest : Future} {x : X} → ((s : NodesSoFar) → added p.event.kind s ≡ begun (container 0) s) →
       BuildsHeld container held f x rest → BuildsValue (gives p f) (whole x) rest
   builds-container {p = p} opens h = record {
     events = p ∷ h.events;
@@ -178,5 +178,5 @@ unfolding values
 built-tree f t tells events comes =
     let v = builds-value tells in
     let same : events ≡ v.events = events_before-same events v.events (sym comes ∙ v.comes) in
-    ap (λ l. value_at (all_added l none_yet).nodes 0) same ∙ ap (λ (s : Nodes). value_at s.nodes 0) (v.builds none_yet)
+    ap (λ l. value_at (all_added l none_yet).nodes 0) same ∙ ap (λ (s : NodesSoFar). value_at s.nodes 0) (v.builds none_yet)
     ∙ ap (λ l. value_beginning v.first (values l)) (sym (append-nil v.own)) ∙ v.tells []

@@ -26,7 +26,7 @@ use Rattle.facet_json_document.proofs.StrictRoot.{no_end, strict_input-comes, st
 use Rattle.facet_json_document.proofs.WalkComes.{document-comes, events_before-append}
 use Rattle.facet_json_layout.specs.Formatted.{GetsStuck, GetsStuckWithin, as_ever, opens_beyond}
 use Rattle.facet_json_layout.specs.Nodes.{Node as DocumentNode, value_at}
-use Rattle.facet_json_layout.specs.Inner.Building.{Nodes, added, none_yet, AddsNext, AddsSome, AddsAll, LeavesRoom, IsTooDeep, RefusesNext, stops, too_deep}
+use Rattle.facet_json_layout.specs.Inner.Building.{NodesSoFar, added, none_yet, AddsNext, AddsSome, AddsAll, LeavesRoom, IsTooDeep, RefusesNext, stops, too_deep}
 use Rattle.facet_json_tree.specs.Depth.{beyond}
 use Rattle.facet_json_tree.specs.Inner.Beyond.{SameBeyond}
 use Rattle.facet_json_tree.proofs.BeyondEvents.{unlimited-none}
@@ -36,7 +36,7 @@ use Rattle.facet_json_layout.proofs.NodesBuilt.{added-append, built-tree}
 -- ---- one call
 
 -- One event more.
-pub adds-more : (old now new : Now) (was is : Nodes) → AddsSome old now was → AddsNext true now new was is → AddsSome old new is
+pub adds-more : (old now new : Now) (was is : NodesSoFar) → AddsSome old now was → AddsNext true now new was is → AddsSome old new is
 adds-more old now new was is some told =
     let one = next-passes now new told.0 told.1 in
     let p : Passed = record { event = told.0; last = one.last } in
@@ -47,17 +47,17 @@ adds-more old now new was is some told =
     }
 
 -- Then the end.
-pub adds-all : (old now new : Now) (was is : Nodes) → AddsSome old now was → AddsNext false now new was is → AddsAll old is.nodes
+pub adds-all : (old now new : Now) (was is : NodesSoFar) → AddsSome old now was → AddsNext false now new was is → AddsAll old is.nodes
 adds-all old now new was is some told =
     let over = next-over now new told.0 in
     record {
       events = some.events;
       comes = some.comes ∙ ap (events_before some.events) over.over;
-      made = ap (λ (s : Nodes). s.nodes) (told.1 ∙ some.nodes);
+      made = ap (λ (s : NodesSoFar). s.nodes) (told.1 ∙ some.nodes);
     }
 
 -- Or a refusal.
-pub adds-refused : (limit room : Option ℕ) (old now new : Now) (was : Nodes) (r : Refusal) → AddsSome old now was →
+pub adds-refused : (limit room : Option ℕ) (old now new : Now) (was : NodesSoFar) (r : Refusal) → AddsSome old now was →
     SameBeyond (future_of old) limit (future_of now) room → now.buffer ≡ old.buffer → now.cursor.refusal ≡ None →
     LacksMemory r ⊎ RefusesNext room now new r → LacksMemory r ⊎ GetsStuckWithin limit old r
 adds-refused limit room old now new was r some level same free (inl lacks) = inl lacks
@@ -68,7 +68,7 @@ adds-refused limit room old now new was r some level same free (inr (stops move)
 ]
 
 -- At the end no container was opened beyond the limit.
-pub adds-shallow : (limit room : Option ℕ) (old now new : Now) (was is : Nodes) → SameBeyond (future_of old) limit (future_of now) room →
+pub adds-shallow : (limit room : Option ℕ) (old now new : Now) (was is : NodesSoFar) → SameBeyond (future_of old) limit (future_of now) room →
     AddsNext false now new was is → beyond (future_of old) limit ≡ None
 adds-shallow limit room old now new was is level told = level.same ∙ ap (λ f. beyond f room) (next-over now new told.0).over
 
@@ -92,7 +92,7 @@ unlimited now r (inr (as_ever b none)) = inr b
 unlimited now r (inr (opens_beyond span found so)) = let none = unlimited-none (future_of now) in cc
 
 -- The parser is not refused.
-pub adds-free : (some : Bool) (old new : Now) (was is : Nodes) → AddsNext some old new was is → new.cursor.refusal ≡ None
+pub adds-free : (some : Bool) (old new : Now) (was is : NodesSoFar) → AddsNext some old new was is → new.cursor.refusal ≡ None
 adds-free true old new was is told = (next-passes old new told.0 told.1).free
 adds-free false old new was is told = (next-over old new told.0).free
 

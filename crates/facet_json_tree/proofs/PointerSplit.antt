@@ -2,7 +2,7 @@
 use Rattle.std.proofs.Common.{◌≡◌, ◌≢◌, ℕ, suc, Bool, true, false, ◌==◌, List, [], ◌∷◌, ◌++◌, Option, Some, None, option_map, refl, sym, ap, subst, ⊎_elim, if◌then◌else◌}
 use Rattle.std.proofs.lemmas.Bool.{or_cases, eqb-true, cases_eq}
 use Rattle.facet_format.specs.Bytes.{slash}
-use Rattle.facet_json_tree.specs.Pointer.{tilde, IsToken, IsPointer, begins, zero_or_one, lone_tilde}
+use Rattle.facet_json_tree.specs.Pointer.{tilde, IsToken, IsPointer, begins_pointer, zero_or_one, lone_tilde}
 use Rattle.facet_json_tree.proofs.Pointers.{stands_alone, alone}
 
 -- a token, and a pointer behind it
@@ -104,7 +104,7 @@ split (b ∷ c ∷ text) none =
     (λ is. subst (λ (d : ℕ). Split (d ∷ c ∷ text)) (sym is) (split-escape c text (escapes b (c ∷ text) is passed.first) escaped))
 
 -- the names that its tokens stand for
-pub is_pointer : (text : List ℕ) → begins text ≡ true → lone_tilde text ≡ None → (names : List (List ℕ)) × IsPointer text names
+pub is_pointer : (text : List ℕ) → begins_pointer text ≡ true → lone_tilde text ≡ None → (names : List (List ℕ)) × IsPointer text names
 is_pointer [] begun none = ([], IsPointer.whole)
 is_pointer (b ∷ text) begun none =
     let s = split text (first_passed b text none).others in

@@ -2,7 +2,7 @@
 use Rattle.std.proofs.Common.{◌≡◌, ◌≢◌, ℕ, suc, ◌+◌, ◌<◌, Bool, true, false, ◌==◌, ◌&&◌, not, List, ◌∷◌, ◌++◌, length, get_or, drop, Option, Some, None, option_map, refl, ap, ◌∙◌, arith}
 use Rattle.std.proofs.Math.Bool.{and-false}
 use Rattle.std.proofs.lemmas.List.{drop_more}
-use Rattle.facet_json_tree.specs.Pointer.{tilde, IsToken, IsPointer, begins, zero_or_one, lone_tilde, IsNoPointer}
+use Rattle.facet_json_tree.specs.Pointer.{tilde, IsToken, IsPointer, begins_pointer, zero_or_one, lone_tilde, IsNoPointer}
 
 -- ---- a lone tilde, from the left to the right
 
@@ -59,12 +59,12 @@ pointer-lone_tilde _ _ IsPointer.whole = refl
 pointer-lone_tilde _ _ (IsPointer.within token name pointer names is others) =
     rw (token_alone token name pointer is (pointer-lone_tilde pointer names others))
 
-pub pointer-begins : (text : List ℕ) (names : List (List ℕ)) → IsPointer text names → begins text ≡ true
+pub pointer-begins : (text : List ℕ) (names : List (List ℕ)) → IsPointer text names → begins_pointer text ≡ true
 pointer-begins _ _ IsPointer.whole = refl
 pointer-begins _ _ (IsPointer.within token name pointer names is others) = refl
 
 -- So a text that begins otherwise is none,
-pub no_pointer-begins : (text : List ℕ) → begins text ≡ false → IsNoPointer text
+pub no_pointer-begins : (text : List ℕ) → begins_pointer text ≡ false → IsNoPointer text
 no_pointer-begins text not_begun names is = let begun = pointer-begins text names is in cc
 
 -- and one in which a tilde does.

@@ -7,14 +7,14 @@ use Rattle.facet_json_tree.specs.Lookup.{last_member}
 use Rattle.facet_json_document.specs.Tree.{Tree, null, pairs, Pairs, no_pairs, pair}
 
 -- the members of an object; a target that is none is taken for an empty one
-abbrev pub members_of : Tree → Pairs
-members_of (pairs members) = members
-members_of target = no_pairs
+abbrev pub members_within : Tree → Pairs
+members_within (pairs members) = members
+members_within target = no_pairs
 
 abbrev mutual
   -- an object patches the target's members, and any other value takes the target's place
   pub merged : Tree → Tree → Tree
-  merged target (pairs patch) = pairs (members_merged (members_of target) patch)
+  merged target (pairs patch) = pairs (members_merged (members_within target) patch)
   merged target patch = patch
 
   -- one name of the patch after the other: `null` removes the members of the name, and another value patches the value of the last one,

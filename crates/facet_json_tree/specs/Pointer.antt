@@ -57,9 +57,9 @@ pub record PointsTo (text : List ℕ) (t : Tree) (found : Option Tree) : Type 0 
 -- ---- where a text is no pointer
 
 -- The text is empty or begins with a slash.
-abbrev pub begins : List ℕ → Bool
-begins [] = true
-begins (b ∷ bytes) = b == slash
+abbrev pub begins_pointer : List ℕ → Bool
+begins_pointer [] = true
+begins_pointer (b ∷ bytes) = b == slash
 
 -- 0 or 1 comes next
 abbrev pub zero_or_one : List ℕ → Bool

@@ -1,17 +1,17 @@
 -- What a refusal of a pointer tells. It names a type of the code.
 use Rattle.std.specs.Prelude.{◌≡◌, ℕ, true, false, List, Option, Some, ◌++◌, codes}
 use Rattle.std.specs.Fmt.{decimal}
-use Rattle.facet_json_tree.specs.Pointer.{begins, lone_tilde, IsNoPointer}
+use Rattle.facet_json_tree.specs.Pointer.{begins_pointer, lone_tilde, IsNoPointer}
 use Rattle.facet_json_tree.specs.declared.pointer_error.PointerError.{PointerError}
 use Rattle.facet_json_tree.specs.declared.pointer_error.PointerError.TheVariants.{NoSlash, LoneTilde}
 
 -- where it says that the text is wrong
 abbrev pub IsWrongAt : List ℕ → PointerError → Type 0
-IsWrongAt text NoSlash = begins text ≡ false
-IsWrongAt text (LoneTilde i) = (begins text ≡ true) × (lone_tilde text ≡ Some i)
+IsWrongAt text NoSlash = begins_pointer text ≡ false
+IsWrongAt text (LoneTilde i) = (begins_pointer text ≡ true) × (lone_tilde text ≡ Some i)
 
 -- The text is no pointer, and the refusal says where.
-pub record Refuses (text : List ℕ) (error : PointerError) : Type 0 where
+pub record RefusesPointer (text : List ℕ) (error : PointerError) : Type 0 where
   pub none : IsNoPointer text
   pub at : IsWrongAt text error
 

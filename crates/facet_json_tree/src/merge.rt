@@ -4,7 +4,7 @@ ghost use Rattle.std.specs.Prelude.{◌≡◌, IfOk, OnErr, OnOk, unwrap_or};
 ghost use Rattle.facet_json_document.specs.Tree.{null};
 ghost use Rattle.facet_json_tree.specs.Edit.{set_member};
 ghost use Rattle.facet_json_tree.specs.Lookup.{last_member};
-ghost use Rattle.facet_json_tree.specs.Merge.{member_merged, members_merged as members_merged_of, members_of as members_of_tree, merged as merged_of};
+ghost use Rattle.facet_json_tree.specs.Merge.{member_merged, members_merged as members_merged_of, members_within, merged as merged_of};
 ghost use Rattle.facet_json_tree.specs.Views.{tree_view, pairs_view};
 
 use crate::copy::copy_tree;
@@ -55,7 +55,7 @@ fn merged(patch: &Tree, target: Tree, alloc: Global) -> Result<Tree, AllocError>
 
 /// The members of the target, or none.
 fn members_of(target: Tree, alloc: Global) -> Vec<(String, Tree)>
-    ensures { pairs_view result.items ≡ members_of_tree (tree_view target) }
+    ensures { pairs_view result.items ≡ members_within (tree_view target) }
 {
     match target {
         Tree::Pairs(members) => members,

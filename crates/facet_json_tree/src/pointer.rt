@@ -10,8 +10,8 @@ ghost use Rattle.facet_format.specs.NumberValue.{digits_value};
 ghost use Rattle.facet_json_tree.specs.Inner.LastNamed.{IsLastNamed};
 ghost use Rattle.facet_json_tree.specs.Inner.PointerParts.{unescaped, before_slash};
 ghost use Rattle.facet_json_tree.specs.Lookup.{last_member, item_at};
-ghost use Rattle.facet_json_tree.specs.Pointer.{IsPointer, PointsTo, begins, child as child_of, index, lone_tilde, named as named_of, zero_or_one};
-ghost use Rattle.facet_json_tree.specs.PointerViews.{IsWrongAt, Refuses};
+ghost use Rattle.facet_json_tree.specs.Pointer.{IsPointer, PointsTo, begins_pointer, child as child_of, index, lone_tilde, named as named_of, zero_or_one};
+ghost use Rattle.facet_json_tree.specs.PointerViews.{IsWrongAt, RefusesPointer};
 ghost use Rattle.facet_json_tree.specs.Same.{same_bytes};
 ghost use Rattle.facet_json_tree.specs.Views.{tree_view, trees_view, pairs_view};
 
@@ -35,7 +35,7 @@ impl Tree {
     /// ```
     pub fn pointer(&self, pointer: &str) -> Result<Option<&Tree>, PointerError>
         ensures ok { IfOk result (λ found. PointsTo pointer.now (tree_view self.now) (option_map (λ t. tree_view t.now) found)) }
-        ensures err { IfErr result (λ error. Refuses pointer.now error) }
+        ensures err { IfErr result (λ error. RefusesPointer pointer.now error) }
     {
         let bytes = checked(pointer)?;
         Ok(named(self, bytes))
@@ -45,7 +45,7 @@ impl Tree {
 /// The bytes of a text that is a pointer.
 pub fn checked(text: &str) -> Result<&[u8], PointerError>
     ensures ok { IfOk result (λ bytes. (names : List (List ℕ)) × IsPointer text.now names × (bytes.now ≡ text.now)) }
-    ensures err { IfErr result (λ error. Refuses text.now error) }
+    ensures err { IfErr result (λ error. RefusesPointer text.now error) }
 {
     let bytes = text.as_bytes();
     check(bytes)?;
@@ -54,7 +54,7 @@ pub fn checked(text: &str) -> Result<&[u8], PointerError>
 
 /// Refuses a text that is no pointer.
 pub fn check(text: &[u8]) -> Result<(), PointerError>
-    ensures ok { OnOk result ((begins text.now ≡ true) × (lone_tilde text.now ≡ None)) }
+    ensures ok { OnOk result ((begins_pointer text.now ≡ true) × (lone_tilde text.now ≡ None)) }
     ensures err { IfErr result (λ error. IsWrongAt text.now error) }
 {
     if !begins_well(text) {
@@ -70,7 +70,7 @@ pub fn check(text: &[u8]) -> Result<(), PointerError>
 
 /// Whether the text is empty or begins with a slash.
 fn begins_well(text: &[u8]) -> bool
-    ensures { result ≡ begins text.now }
+    ensures { result ≡ begins_pointer text.now }
 {
     match text {
         [] => true,

@@ -4,7 +4,7 @@ ghost use Rattle.std.specs.Prelude.{◌≡◌, ℕ, List, IfOk, IfErr, option_ma
 ghost use Rattle.facet_json_tree.specs.Inner.PointerParts.{unescaped};
 ghost use Rattle.facet_json_tree.specs.Lookup.{last_member, item_at};
 ghost use Rattle.facet_json_tree.specs.Pointer.{IsPointer, PointsTo, child as child_of, index, named as named_of};
-ghost use Rattle.facet_json_tree.specs.PointerViews.{Refuses};
+ghost use Rattle.facet_json_tree.specs.PointerViews.{RefusesPointer};
 ghost use Rattle.facet_json_tree.specs.Views.{tree_view, trees_view, pairs_view};
 
 use crate::lookup::item_of_mut;
@@ -26,7 +26,7 @@ impl Tree {
     /// Those of `pointer`: the text is no pointer, whatever the value is.
     pub fn pointer_mut(&mut self, pointer: &str) -> Result<Option<&mut Tree>, PointerError>
         ensures ok { IfOk result (λ found. PointsTo pointer.now (tree_view self.old) (option_map (λ t. tree_view t.now) found)) }
-        ensures err { IfErr result (λ error. Refuses pointer.now error) }
+        ensures err { IfErr result (λ error. RefusesPointer pointer.now error) }
     {
         let bytes = checked(pointer)?;
         Ok(named_mut(self, bytes))

@@ -16,31 +16,31 @@ use Rattle.facet_format.specs.declared.event.ContainerKind.TheVariants as rust
 use Rattle.facet_json_layout.specs.declared.document.build.Built.{Built}
 
 -- the nodes so far, and the indices of the containers that are not closed yet, the innermost first
-pub record Nodes : Type 0 where
+pub record NodesSoFar : Type 0 where
   pub nodes : List Node
   pub unclosed : List ℕ
 
 -- a container begins, the number of whose nodes is not yet known
-abbrev pub begun : Node → Nodes → Nodes
+abbrev pub begun : Node → NodesSoFar → NodesSoFar
 begun n s = record { nodes = s.nodes ++ n ∷ []; unclosed = length s.nodes ∷ s.unclosed }
 
-abbrev pub also : Node → Nodes → Nodes
+abbrev pub also : Node → NodesSoFar → NodesSoFar
 also n s = record { nodes = s.nodes ++ n ∷ []; unclosed = s.unclosed }
 
 -- the innermost container is closed: from its node on so many are its own
-abbrev pub closed : (ℕ → Node) → List Node → List ℕ → Nodes
+abbrev pub closed : (ℕ → Node) → List Node → List ℕ → NodesSoFar
 closed container nodes [] = record { nodes = nodes; unclosed = [] }
 closed container nodes (start ∷ unclosed) =
     record { nodes = set nodes start (container (length nodes - start)); unclosed = unclosed }
 
-abbrev pub ended_by : (ℕ → Node) → List Node → List ℕ → Nodes
+abbrev pub ended_by : (ℕ → Node) → List Node → List ℕ → NodesSoFar
 ended_by container nodes unclosed = also closing (closed container nodes unclosed)
 
-abbrev pub ended : (ℕ → Node) → Nodes → Nodes
+abbrev pub ended : (ℕ → Node) → NodesSoFar → NodesSoFar
 ended container s = ended_by container s.nodes s.unclosed
 
 -- the node of an event, after the others
-abbrev pub added : EventKind → Nodes → Nodes
+abbrev pub added : EventKind → NodesSoFar → NodesSoFar
 added (scalar value) s = also (leaf (unwrap_or (tree_of_scalar value) nothing)) s
 added (field_key name) s = also (key (bytes_of name)) s
 added (sequence_start kind) s = begun (list 0) s
@@ -49,11 +49,11 @@ added sequence_end s = ended list s
 added struct_end s = ended object s
 
 -- those of events, one after another
-abbrev pub all_added : List Passed → Nodes → Nodes
+abbrev pub all_added : List Passed → NodesSoFar → NodesSoFar
 all_added [] s = s
 all_added (p ∷ events) s = all_added events (added p.event.kind s)
 
-abbrev pub none_yet : Nodes
+abbrev pub none_yet : NodesSoFar
 none_yet = record { nodes = []; unclosed = [] }
 
 -- the node of a container of that kind
@@ -61,16 +61,16 @@ abbrev pub container : RustContainerKind → ℕ → Node
 container rust.Array = list
 container rust.Object = object
 
-abbrev pub built_view : Built → Nodes
+abbrev pub built_view : Built → NodesSoFar
 built_view b = record { nodes = nodes_view b.nodes.items; unclosed = reverse b.unclosed.items }
 
 -- The next event was passed and its node added, or the end was told.
-abbrev pub AddsNext : Bool → Now → Now → Nodes → Nodes → Type 0
+abbrev pub AddsNext : Bool → Now → Now → NodesSoFar → NodesSoFar → Type 0
 AddsNext true old new was is = (e : Event) × Moves old next (event (Ok (Some e))) new × (is ≡ added e.kind was)
 AddsNext false old new was is = Moves old next (event (Ok None)) new × (is ≡ was)
 
 -- Events were passed, and these are their nodes.
-pub record AddsSome (old now : Now) (is : Nodes) : Type 0 where
+pub record AddsSome (old now : Now) (is : NodesSoFar) : Type 0 where
   pub events : List Passed
   pub comes : future_of old ≡ events_before events (future_of now)
   pub nodes : is ≡ all_added events none_yet

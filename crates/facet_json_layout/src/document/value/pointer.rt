@@ -8,7 +8,7 @@ ghost use Rattle.facet_json_layout.specs.Nodes.{items, members, value_view};
 ghost use Rattle.facet_json_tree.specs.Inner.PointerParts.{unescaped};
 ghost use Rattle.facet_json_tree.specs.Lookup.{item_at, last_member};
 ghost use Rattle.facet_json_tree.specs.Pointer.{IsPointer, PointsTo, child as child_of, index as index_for, named as named_of};
-ghost use Rattle.facet_json_tree.specs.PointerViews.{Refuses};
+ghost use Rattle.facet_json_tree.specs.PointerViews.{RefusesPointer};
 
 use crate::document::value::Value;
 use facet_json_tree::PointerError;
@@ -31,7 +31,7 @@ impl<'d, 'i> Value<'d, 'i> {
     /// The text is no pointer, whatever the value is: it does not begin with `/`, or a `~` stands in it with neither `0` nor `1` behind it.
     pub fn pointer(&self, pointer: &str) -> Result<Option<Value<'d, 'i>>, PointerError>
         ensures ok { IfOk result (λ found. PointsTo pointer.now (value_view self.now) (option_map value_view found)) }
-        ensures err { IfErr result (λ error. Refuses pointer.now error) }
+        ensures err { IfErr result (λ error. RefusesPointer pointer.now error) }
     {
         let bytes = checked(pointer)?;
         Ok(self.named(bytes))

@@ -3,7 +3,7 @@ use Rattle.std.proofs.lemmas.List.{drop_all}
 use Rattle.facet_json_document.specs.Tree.{pairs}
 use Rattle.facet_json_tree.specs.Content.{is_null}
 use Rattle.facet_json_tree.specs.Edit.{set_member}
-use Rattle.facet_json_tree.specs.Merge.{merged, member_merged, members_merged, members_of}
+use Rattle.facet_json_tree.specs.Merge.{merged, member_merged, members_merged, members_within}
 use Rattle.facet_json_tree.specs.Views.{tree_view, pairs_view}
 use Rattle.facet_json_tree.proofs.Merges.{set_member-twice}
 use Rattle.facet_json_tree.proofs.TreeViews.{tree_view-Pairs, pairs_view-drop}
@@ -11,7 +11,7 @@ use Rattle.facet_json_tree.proofs.merge.+merge.Goals as goal
 
 pub merged-returns-in_ok-members_merged-in-Pairs : goal.merged-returns-in_ok-members_merged-in-Pairs
 merged-returns-in_ok-members_merged-in-Pairs t c =
-    let target = members_of (tree_view c.args.target) in
+    let target = members_within (tree_view c.args.target) in
     let is = c.in_ok-members_merged-in-Pairs.ensures ∙ ap (λ ts. members_merged ts (pairs_view c.deref.result.now)) c.members_of.ensures
     ∙ ap (λ ms. members_merged target (pairs_view ms)) c.deref.ensures.value in
     tree_view-Pairs _ ∙ ap pairs is ∙ sym (ap (merged (tree_view c.args.target)) (ap tree_view c.in-Pairs.is ∙ tree_view-Pairs _))
