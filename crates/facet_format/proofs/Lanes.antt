@@ -1,10 +1,10 @@
 -- A mask that is computed lane by lane is held to a predicate at each of the 256 bytes.
-use Rattle.std.proofs.Common.{◌≡◌, ℕ, zero, suc, ◌%◌, ◌^◌, ◌<◌, ◌≤◌, ltb, leb, Bool, true, false, not, ◌&&◌, cond, eqb, T, ◌⊎◌, inl, inr, List, [], ◌∷◌, map, length, replicate, refl, sym, ap, ap₂, subst, ◌∙◌, arith, w8, Fits, not-suc-le-zero}
+use Rattle.std.proofs.Common.{◌≡◌, ℕ, ◌%◌, ◌^◌, ◌≤◌, ltb, leb, Bool, cond, eqb, T, List, [], ◌∷◌, map, length, replicate, refl, sym, ap, ap₂, ◌∙◌, arith, w8, Fits}
 use Rattle.std.proofs.lemmas.Simd.{mask_l-mod, map-map}
 use Rattle.std.proofs.lemmas.List.{length-map}
-use Rattle.std.proofs.lemmas.Bool.{cases_order}
 use lib.Bits.{bit_or}
 use lib.Lanes.{zip2, mask_l, top, Each1}
+use Rattle.facet_format.proofs.EachBelow.{upto, upto_sound, same, same_is}
 
 -- a lane of `simd_eq`
 abbrev pub equal : ℕ → ℕ → ℕ
@@ -24,34 +24,6 @@ zip2-map f g (x ∷ xs) = ap (λ r. bit_or (f x) (g x) ∷ r) (zip2-map f g xs)
 
 pub either : (f g : ℕ → ℕ) (v : List ℕ) {a b : List ℕ} → a ≡ map f v → b ≡ map g v → zip2 bit_or a b ≡ map (λ x. bit_or (f x) (g x)) v
 either f g v p q = ap₂ (zip2 bit_or) p q ∙ zip2-map f g v
-
--- a fact of each number below n, by computation
-abbrev pub upto : (ℕ → Bool) → ℕ → Bool
-upto p zero = true
-upto p (suc n) = p n && upto p n
-
-both : (a b : Bool) → T (a && b) → T a × T b
-both true b h = (tt, h)
-both false b h = absurd h
-
-upto_sound : (p : ℕ → Bool) (n : ℕ) → T (upto p n) → (i : ℕ) → i < n → T (p i)
-upto_sound p zero h i lt = absurd (not-suc-le-zero lt)
-upto_sound p (suc n) h i lt = go (upto_sound p n (both (p n) (upto p n) h).1 i) (cases_order i n)
-  where
-    go : (i < n → T (p i)) → (i ≡ n) ⊎ ((i < n) ⊎ (n < i)) → T (p i)
-    go below (inl e) = subst (λ x. T (p x)) (sym e) (both (p n) (upto p n) h).0
-    go below (inr (inl l)) = below l
-    go below (inr (inr g)) = let no : ⊥ = omega arith in absurd no
-
-abbrev pub same : Bool → Bool → Bool
-same true b = b
-same false b = not b
-
-same_is : (a b : Bool) → T (same a b) → a ≡ b
-same_is true true h = refl
-same_is false false h = refl
-same_is true false h = absurd h
-same_is false true h = absurd h
 
 each_byte : (f : ℕ → ℕ) (p : ℕ → Bool) → T (upto (λ x. same (top 7 (f x)) (p x)) 256) → (v : List ℕ) → Each1 (Fits w8) v → map (top 7) (map f v) ≡ map p v
 each_byte f p all [] fits = refl

@@ -4,7 +4,8 @@ use Rattle.std.proofs.lemmas.Bool.{cases_lt}
 use lib.Bits.{bit_and, bit_or, bit_xor, or_lt}
 use lib.Pow.{shr-shr}
 use Rattle.facet_json_parser.specs.Inner.Marks.{test, xor, parity, inside, is_quote, is_backslash, is_calm, is_hard, is_marked}
-use Rattle.facet_json_parser.proofs.Bits.Test.{test-and, test-or, test-xor, flip, test-flip, test-spread, spread, upto_sound, same, same_is}
+use Rattle.facet_json_parser.proofs.Bits.Test.{test-and, test-or, test-xor, flip, test-flip, test-spread, spread}
+use Rattle.facet_format.proofs.EachBelow.{upto_sound, same, same_is}
 
 abbrev pub Bits : ℕ → (ℕ → Bool) → Type 0
 Bits x p = (i : ℕ) → i < 64 → test x i ≡ p i

@@ -1,5 +1,5 @@
 -- A line that is cut out of a text, where the place within it may be any.
-use Rattle.std.proofs.Common.{◌≡◌, ℕ, zero, suc, ◌+◌, ◌-◌, ◌≤◌, ◌<◌, not, List, ◌++◌, length, take, drop, get_or, slice_index, slice_range, IsUtf8, IsCharBoundary, sym, ap, ◌∙◌, subst, arith, length-append, length-drop, take-append-drop, append_assoc, rules}
+use Rattle.std.proofs.Common.{◌≡◌, ℕ, zero, suc, ◌+◌, ◌-◌, ◌≤◌, ◌<◌, not, List, ◌++◌, length, take, drop, get_or, slice_index, slice_range, IsUtf8, IsCharBoundary, sym, ap, ◌∙◌, subst, arith, length-append, length-drop, take-append-drop}
 use Rattle.std.specs.List.{suffix_len, position_or_len, after_last, before_first}
 use Rattle.std.proofs.lemmas.Str.{IsCharBoundary-start, IsCharBoundary-after_ascii}
 use lib.ListN.{get_or-append}
@@ -48,8 +48,3 @@ pub line_starts : (source before after : List ℕ) (offset start : ℕ) → befo
 line_starts source before after offset start b a text within feed =
     let whole : before ++ after ≡ source = together source before after offset b a in
     subst (λ s. IsCharBoundary s start) whole (starts_line before after start (subst IsUtf8 (sym whole) text) within feed)
-
--- a header of six parts, then what follows
-pub parts_joined : (a b c d e text feed rest : List ℕ)
-    → (a ++ (b ++ (c ++ (d ++ (e ++ (text ++ feed)))))) ++ rest ≡ a ++ (b ++ (c ++ (d ++ (e ++ (text ++ (feed ++ rest))))))
-parts_joined a b c d e text feed rest = search (rules, append_assoc)

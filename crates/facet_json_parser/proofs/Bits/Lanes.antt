@@ -6,7 +6,8 @@ use lib.Bits.{bit_and}
 use lib.Lanes.{zip2, mask_l, top, Each1}
 use Rattle.facet_format.proofs.Lanes.{equal as hit}
 use Rattle.facet_json_parser.specs.Inner.Marks.{test}
-use Rattle.facet_json_parser.proofs.Bits.Test.{test-mod, test-mask_l, upto, upto_sound, same, same_is}
+use Rattle.facet_format.proofs.EachBelow.{upto, upto_sound, same, same_is}
+use Rattle.facet_json_parser.proofs.Bits.Test.{test-mod, test-mask_l}
 
 pub equal : (f : ℕ → ℕ) (y : ℕ) (v : List ℕ) {a : List ℕ} → length v ≡ 64 → a ≡ map f v → zip2 hit a (replicate 64 y) ≡ map (λ x. hit (f x) y) v
 equal f y v long p = ap (λ a. zip2 hit a (replicate 64 y)) p ∙ zip2_splat hit (map f v) 64 y (length-map v f ∙ long) ∙ map-map (λ x. hit x y) f v

@@ -8,6 +8,7 @@ use lib.Bits.{bit_and, bit_or, bit_xor, shifted_even}
 use lib.Pow.{field, mod-mod-pow, shr-shr, shl-shr, pow-add}
 use lib.Lanes.{mask_l}
 use mir.Val.{bool_byte}
+use Rattle.facet_format.proofs.EachBelow.{upto_sound, same, same_is}
 use Rattle.facet_json_parser.specs.Inner.Marks.{test, xor}
 
 pub bit_cases : (P : ℕ → Type 0) → P 0 → P 1 → (x : ℕ) → x < 2 → P x
@@ -63,11 +64,6 @@ test-shl_low k i y lt h =
     let moved : y * 2 ^ (suc m + i) / 2 ^ i ≡ y * 2 ^ suc m = ap (λ x. x / 2 ^ i) (ap (λ x. y * x) (pow-add 2 (suc m) i) ∙ sym (mul_assoc y (2 ^ suc m) (2 ^ i))) ∙ shl-shr (y * 2 ^ suc m) i in
     test-mod (y * 2 ^ k) i h ∙ ap (λ x. x == 1) (subst (λ w. bit_at (y * 2 ^ w) i ≡ 0) e (ap (λ x. x % 2) moved ∙ shifted_even y m))
 
-pub test-shl_one : (j y : ℕ) → suc j < 64 → test (shl 1 y) (suc j) ≡ test y j
-test-shl_one j y h =
-    let e : 1 + j ≡ suc j = omega arith in
-    ap (test (shl 1 y)) (sym e) ∙ test-shl_high 1 j y (omega arith)
-
 pub test-mask_l : (ms : List Bool) (i : ℕ) → test (mask_l ms) i ≡ get_or ms i false
 unfolding test
 test-mask_l ms i = ap (λ x. x == 1) (bit_mask_l ms i) ∙ back (get_or ms i false)
@@ -75,33 +71,6 @@ test-mask_l ms i = ap (λ x. x == 1) (bit_mask_l ms i) ∙ back (get_or ms i fal
     back : (b : Bool) → (cond b 1 0 == 1) ≡ b
     back true = refl
     back false = refl
-
--- a fact of each number below n, by computation
-abbrev pub upto : (ℕ → Bool) → ℕ → Bool
-upto p zero = true
-upto p (suc n) = p n && upto p n
-
-both : (a b : Bool) → T (a && b) → T a × T b
-both true b h = (tt, h)
-both false b h = absurd h
-
-pub upto_sound : (p : ℕ → Bool) (n : ℕ) → T (upto p n) → (i : ℕ) → i < n → T (p i)
-upto_sound p zero h i lt = absurd (not-suc-le-zero lt)
-upto_sound p (suc n) h i lt = go (upto_sound p n (both (p n) (upto p n) h).1 i) (cases_order i n)
-  where
-    go : (i < n → T (p i)) → (i ≡ n) ⊎ ((i < n) ⊎ (n < i)) → T (p i)
-    go below (inl e) = subst (λ x. T (p x)) (sym e) (both (p n) (upto p n) h).0
-    go below (inr (inl l)) = below l
-    go below (inr (inr g)) = let no : ⊥ = omega arith in absurd no
-
-abbrev pub same : Bool → Bool → Bool
-same a b = not (xor a b)
-
-pub same_is : (a b : Bool) → T (same a b) → a ≡ b
-same_is true true h = refl
-same_is false false h = refl
-same_is true false h = absurd h
-same_is false true h = absurd h
 
 -- a Bool as a word
 pub byte_lt : (c : Bool) → bool_byte c < 2 ^ 64
