@@ -1,8 +1,7 @@
 -- The nodes of all events of an input are its document's.
 use Rattle.std.proofs.Common.{◌≡◌, ◌⊎◌, inl, inr, ℕ, Bool, true, false, List, [], ◌∷◌, ◌++◌, sym, ap, ◌∙◌, subst}
-use Rattle.std.specs.Prelude.{Option, Some, None, Err}
+use Rattle.std.specs.Prelude.{Option, Some, None}
 use Rattle.facet_format.specs.Complaint.{Refusal}
-use Rattle.facet_format.specs.Cursor.{event, next}
 use Rattle.facet_format.specs.Event.{Event, Passed}
 use Rattle.facet_json_token.specs.Gap.{Mode, plain}
 use Rattle.facet_json_core.specs.Reading.{LacksMemory}
@@ -12,7 +11,6 @@ use Rattle.facet_json_document.specs.EventLaws.{RootComes, document_comes, prefi
 use Rattle.facet_json_document.specs.Future.{finished, events_before}
 use Rattle.facet_json_document.specs.Language.{strict}
 use Rattle.facet_json_document.specs.Meaning.{tree_of}
-use Rattle.facet_json_document.specs.Move.{Moves}
 use Rattle.facet_json_document.specs.Next.{PassesNext}
 use Rattle.facet_json_document.specs.Node.{Node}
 use Rattle.facet_json_document.specs.Now.{Now, fresh, fresh_in, future_of}

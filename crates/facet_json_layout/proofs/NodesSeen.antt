@@ -1,22 +1,21 @@
 -- What a value of a document tells of its nodes.
 use Rattle.std.proofs.Common.{◌≡◌, ℕ, zero, suc, ◌+◌, ◌-◌, ◌<◌, ◌≤◌, Bool, true, false, List, [], ◌∷◌, length, drop, get_or, Option, Some, None, refl, sym, ap, ap₂, ◌∙◌, arith, subst}
 use Rattle.std.specs.Prelude.{MatchOption, if◌then◌else◌}
-use Rattle.std.specs.Borrow.{Bor}
 use Rattle.std.specs.Option.{unwrap_or, option_map, option_or}
 use Rattle.std.proofs.lemmas.List.{drop-drop, length-map}
 use Rattle.std.proofs.lemmas.Option.{slice_get-map, slice_get-get_or}
 use Rattle.facet_format.specs.Event.{Scalar}
 use Rattle.facet_format.specs.Event as event
 use Rattle.facet_format.specs.Views.{scalar_value_of}
-use Rattle.facet_format.specs.declared.event.ScalarValue.{ScalarValue}
 use Rattle.facet_json_core.specs.Told.{tree_of_scalar}
 use Rattle.facet_json_document.specs.Tree.{Tree, tree, no_trees, pair, no_pairs}
 use Rattle.facet_json_document.specs.Tree as trees
 use Rattle.facet_json_tree.specs.Content.{as_list, as_pairs}
 use Rattle.facet_json_tree.specs.Lookup.{item, item_at, member, last_member}
 use Rattle.facet_json_tree.specs.Same.{same_bytes}
-use Rattle.facet_json_layout.specs.Nodes.{Node, leaf, key, list, object, closing, nothing, inner_len, is_closing_node, is_leaf, is_key, is_list, is_object, items, members, value_beginning, values, value_at, value_in, trees_len, pairs_len, len, trees_list, pairs_list, node_view, nodes_view, value_view}
+use Rattle.facet_json_layout.specs.Nodes.{Node, leaf, key, list, object, closing, nothing, inner_len, is_closing_node, is_leaf, is_key, is_list, is_object, items, members, value_beginning, values, value_at, value_in, len, trees_list, pairs_list, node_view, leaf_view, nodes_view, value_view}
 use Rattle.facet_json_layout.specs.Inner.Looking.{HoldsOthers, of_nothing, of_list, of_object, IsLeaf, from, NodeStands, IsItem, MemberStands}
+use Rattle.facet_json_layout.specs.declared.document.node.Leaf.{Leaf as RustLeaf}
 use Rattle.facet_json_layout.specs.declared.document.node.Node.{Node as RustNode}
 use Rattle.facet_json_layout.specs.declared.document.node.Node.TheVariants as rust
 use Rattle.facet_json_layout.specs.Nodes.{items_left as held_items, members_left as held_members}
@@ -57,13 +56,27 @@ not-leaf closing later e = of_nothing
 pub no-leaf : (v : Value) → from v v.index ≡ [] → IsLeaf (value_view v) None
 no-leaf v e = subst HoldsOthers (sym (empty-value v e)) (of_nothing)
 
--- the node tells the value that holds no others
-abbrev pub TellsLeaf : Node → Option (Bor ScalarValue) → Type 0
-TellsLeaf n answer = MatchOption answer (is_leaf n ≡ false) (λ s. n ≡ leaf (unwrap_or (tree_of_scalar (scalar_value_of s.now)) nothing))
+-- What holds no others is the node's leaf, and where there is none no value begins.
+neither : (n : Node) (later : List (Node × Tree)) → is_leaf n ≡ false → is_list n ≡ false → is_object n ≡ false → value_beginning n later ≡ nothing
+neither (leaf t) later e f g = cc
+neither (key name) later e f g = refl
+neither (list k) later e f g = cc
+neither (object k) later e f g = cc
+neither closing later e f g = refl
 
-pub leaf-told : (v : Value) (n : Node) (answer : Option (Bor ScalarValue)) → NodeStands v v.index n → TellsLeaf n answer → IsLeaf (value_view v) answer
+pub leaf-of : (v : Value) (n : Node) (l : RustLeaf) → NodeStands v v.index n → n ≡ leaf (leaf_view l) → value_view v ≡ leaf_view l
+leaf-of v n l s e = value-stands v n s ∙ ap (λ m. value_beginning m (from v (suc v.index))) e
+
+pub nothing-of : (v : Value) (n : Node) → NodeStands v v.index n → is_leaf n ≡ false → is_list n ≡ false → is_object n ≡ false → value_view v ≡ nothing
+nothing-of v n s e f g = value-stands v n s ∙ neither n (from v (suc v.index)) e f g
+
+-- the node tells the value that holds no others
+abbrev pub TellsLeaf : Node → Option RustLeaf → Type 0
+TellsLeaf n answer = MatchOption answer (is_leaf n ≡ false) (λ l. n ≡ leaf (leaf_view l))
+
+pub leaf-told : (v : Value) (n : Node) (answer : Option RustLeaf) → NodeStands v v.index n → TellsLeaf n answer → IsLeaf (value_view v) answer
 leaf-told v n None s h = subst HoldsOthers (sym (value-stands v n s)) (not-leaf n (from v (suc v.index)) h)
-leaf-told v n (Some x) s h = value-stands v n s ∙ ap (λ m. value_beginning m (from v (suc v.index))) h
+leaf-told v n (Some l) s h = leaf-of v n l s h
 
 -- ---- what holds others
 
@@ -76,19 +89,14 @@ scalar-pairs event.null = refl
 scalar-pairs _ = refl
 
 other-list : (n : RustNode) (later : List (Node × Tree)) → is_list (node_view n) ≡ false → as_list (value_beginning (node_view n) later) ≡ None
-other-list (rust.Leaf s) later e = scalar-list (scalar_value_of s)
-other-list (rust.Key name) later e = refl
+other-list (rust.Held held) later e = scalar-list (scalar_value_of held.value)
 other-list (rust.List k) later e = cc
-other-list (rust.Object k) later e = refl
-other-list rust.End later e = refl
+other-list _ later e = refl
 
 other-pairs : (n : RustNode) (later : List (Node × Tree)) → is_object (node_view n) ≡ false → as_pairs (value_beginning (node_view n) later) ≡ None
-other-pairs (rust.Leaf s) later e = scalar-pairs (scalar_value_of s)
-other-pairs (rust.Key name) later e = refl
-other-pairs (rust.Object k) later e =
-    cc
-other-pairs (rust.List k) later e = refl
-other-pairs rust.End later e = refl
+other-pairs (rust.Held held) later e = scalar-pairs (scalar_value_of held.value)
+other-pairs (rust.Object k) later e = cc
+other-pairs _ later e = refl
 
 a-list : (n : Node) (later : List (Node × Tree)) → is_list n ≡ true → value_beginning n later ≡ trees.list (items 0 later)
 a-list (list k) later e = refl

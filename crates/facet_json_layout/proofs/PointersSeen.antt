@@ -1,5 +1,5 @@
 -- What a token of a pointer names in a value of a document.
-use Rattle.std.proofs.Common.{◌≡◌, ℕ, zero, suc, ◌≤◌, ◌^◌, false, List, [], ◌∷◌, length, drop, length-drop, Option, Some, None, refl, sym, ap, ◌∙◌, arith}
+use Rattle.std.proofs.Common.{◌≡◌, ℕ, zero, suc, ◌≤◌, ◌^◌, false, List, [], ◌∷◌, length, length-drop, Option, Some, None, refl, ap, arith}
 use Rattle.std.specs.Prelude.{IfSome, option_and_then}
 use Rattle.std.proofs.lemmas.List.{length-map}
 use Rattle.facet_json_document.specs.Tree.{Tree, Trees, no_trees, tree}

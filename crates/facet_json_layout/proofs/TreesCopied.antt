@@ -1,14 +1,12 @@
 -- The trees that were copied of a list's items and an object's members are theirs, and a value is what its node tells.
-use Rattle.std.proofs.Common.{◌≡◌, ℕ, suc, ◌+◌, List, [], ◌∷◌, ◌++◌, map, drop, get_or, refl, sym, ap, ap₂, ◌∙◌, append_assoc, String, Global, string_bytes, subst}
+use Rattle.std.proofs.Common.{◌≡◌, ℕ, suc, List, [], ◌∷◌, ◌++◌, map, drop, get_or, refl, sym, ap, ap₂, ◌∙◌, String, Global, string_bytes}
 use Rattle.std.proofs.lemmas.List.{append-nil}
 use Rattle.facet_json_document.specs.Tree.{Tree, Trees, no_trees, tree, Pairs, no_pairs, pair}
 use Rattle.facet_json_tree.specs.Views.{tree_view, trees_view, pairs_view}
 use Rattle.facet_json_tree.specs.declared.tree.Tree.{Tree as RustTree}
-use Rattle.facet_json_layout.specs.Nodes.{items, members, trees_list, pairs_list, value_at, value_beginning, node_view, nodes_view, value_view}
-use Rattle.facet_json_layout.specs.Inner.Looking.{from, NodeStands, IsItem, MemberStands}
-use Rattle.facet_json_layout.specs.declared.document.node.Node.{Node as RustNode}
+use Rattle.facet_json_layout.specs.Nodes.{items, members, trees_list, pairs_list, value_at, nodes_view, value_view}
+use Rattle.facet_json_layout.specs.Inner.Looking.{from, IsItem, MemberStands}
 use Rattle.facet_json_layout.specs.declared.document.value.Value.{Value}
-use Rattle.facet_json_layout.proofs.NodesSeen.{value-stands}
 
 -- a member that was copied
 abbrev pub member_seen : String Global × RustTree → List ℕ × Tree
@@ -68,14 +66,3 @@ pub members-copied : (v : Value) (copies : List (String Global × RustTree)) (at
     pairs_view copies ≡ members 0 (from v (suc v.index))
 members-copied v copies at so none =
     all-members copies _ (so ∙ ap (λ ps. map member_seen copies ++ pairs_list ps) none ∙ append-nil (map member_seen copies))
-
--- ---- a value by its node
-
--- The value at a node that is this one.
-pub value-of_node : (v : Value) (n m : RustNode) → NodeStands v v.index (node_view n) → n ≡ m → value_view v ≡ value_beginning (node_view m) (from v (suc v.index))
-value-of_node v n m s e = value-stands v (node_view n) s ∙ ap (λ k. value_beginning (node_view k) (from v (suc v.index))) e
-
--- What is said of it is said of the value.
-pub said-of_node : (v : Value) (n m : RustNode) (said : Tree → Type 0) → NodeStands v v.index (node_view n) → n ≡ m →
-    said (value_beginning (node_view m) (from v (suc v.index))) → said (value_view v)
-said-of_node v n m said s e h = subst said (sym (value-of_node v n m s e)) h

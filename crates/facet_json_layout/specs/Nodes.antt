@@ -11,6 +11,8 @@ use Rattle.facet_json_document.specs.Tree.{Tree, Trees, no_trees, tree, Pairs, n
 use Rattle.facet_json_document.specs.Tree as trees
 use Rattle.facet_json_layout.specs.declared.document.node.Node.{Node as RustNode}
 use Rattle.facet_json_layout.specs.declared.document.node.Node.TheVariants as rust
+use Rattle.facet_json_layout.specs.declared.document.node.Leaf.{Leaf as RustLeaf}
+use Rattle.facet_json_layout.specs.declared.document.node.Leaf.TheVariants as leaves
 use Rattle.facet_json_layout.specs.declared.document.node.ValueKind.{ValueKind}
 use Rattle.facet_json_layout.specs.declared.document.node.ValueKind.TheVariants as kind
 use Rattle.facet_json_layout.specs.declared.document.value.Value.{Value}
@@ -139,11 +141,27 @@ len _ = None
 -- ---- what the types of the code stand for
 
 abbrev pub node_view : RustNode → Node
-node_view (rust.Leaf value) = leaf (unwrap_or (tree_of_scalar (scalar_value_of value)) nothing)
-node_view (rust.Key name) = key (bytes_of (text_of name))
+node_view rust.Null = leaf trees.null
+node_view (rust.Bool b) = leaf (trees.bool b)
+node_view (rust.I64 n) = leaf (trees.i64 n)
+node_view (rust.U64 n) = leaf (trees.u64 n)
+node_view (rust.Text t) = leaf (trees.text t.now)
+node_view (rust.Held held) = leaf (unwrap_or (tree_of_scalar (scalar_value_of held.value)) nothing)
+node_view (rust.Key name) = key name.now
+node_view (rust.HeldKey held) = key (bytes_of (text_of held.value))
 node_view (rust.List n) = list n
 node_view (rust.Object n) = object n
 node_view rust.End = closing
+
+-- a value that holds no others
+abbrev pub leaf_view : RustLeaf → Tree
+leaf_view leaves.Null = trees.null
+leaf_view (leaves.Bool b) = trees.bool b
+leaf_view (leaves.I64 n) = trees.i64 n
+leaf_view (leaves.U64 n) = trees.u64 n
+leaf_view (leaves.Decimal d) = trees.decimal (bytes_of d.now)
+leaf_view (leaves.Text t) = trees.text t.now
+leaf_view leaves.Other = nothing
 
 abbrev pub nodes_view : List RustNode → List Node
 nodes_view nodes = map node_view nodes

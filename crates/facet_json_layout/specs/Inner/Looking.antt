@@ -1,12 +1,9 @@
 -- Looking into a value of a document: its nodes, and what begins at them.
 use Rattle.std.specs.Prelude.{◌≡◌, ◌<◌, ◌≤◌, ℕ, suc, List, [], ◌∷◌, length, drop, Option, MatchOption}
 use Rattle.std.specs.Borrow.{Bor}
-use Rattle.facet_format.specs.Views.{scalar_value_of}
-use Rattle.facet_format.specs.declared.event.ScalarValue.{ScalarValue}
-use Rattle.std.specs.Option.{unwrap_or}
-use Rattle.facet_json_core.specs.Told.{tree_of_scalar}
 use Rattle.facet_json_document.specs.Tree.{Tree, list, pairs, Trees, no_trees, tree, Pairs, no_pairs, pair}
-use Rattle.facet_json_layout.specs.Nodes.{Node, nothing, items, members, value_beginning, value_at, values, node_view, nodes_view}
+use Rattle.facet_json_layout.specs.Nodes.{Node, nothing, items, members, value_beginning, value_at, values, leaf_view, node_view, nodes_view}
+use Rattle.facet_json_layout.specs.declared.document.node.Leaf.{Leaf as RustLeaf}
 use Rattle.facet_json_layout.specs.declared.document.node.Node.{Node as RustNode}
 use Rattle.facet_json_layout.specs.declared.document.value.Value.{Value}
 
@@ -17,8 +14,8 @@ pub data HoldsOthers : Tree → Type 0 where
   of_object : (ps : Pairs) → HoldsOthers (pairs ps)
 
 -- the answer is the value that holds no others, where it is one
-abbrev pub IsLeaf : Tree → Option (Bor ScalarValue) → Type 0
-IsLeaf t answer = MatchOption answer (HoldsOthers t) (λ s. t ≡ unwrap_or (tree_of_scalar (scalar_value_of s.now)) nothing)
+abbrev pub IsLeaf : Tree → Option RustLeaf → Type 0
+IsLeaf t answer = MatchOption answer (HoldsOthers t) (λ l. t ≡ leaf_view l)
 
 -- the nodes from this index on, each with the value that begins there
 abbrev pub from : Value → ℕ → List (Node × Tree)

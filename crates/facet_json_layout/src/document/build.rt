@@ -15,7 +15,7 @@ ghost use Rattle.facet_json_document.specs.UnreadLaws.{RefusalWithin};
 ghost use Rattle.facet_json_layout.specs.Formatted.{GetsStuckWithin};
 ghost use Rattle.facet_json_layout.specs.Nodes.{Node as SpecNode, leaf, list, object, closing, node_view, nodes_view};
 
-use crate::document::node::Node;
+use crate::document::node::{Node, key_node, leaf_node};
 use facet_format::{
     ContainerKind, DeserializeError, DeserializeErrorKind, FormatParser, ParseEventKind, Span,
 };
@@ -25,6 +25,8 @@ use std::alloc::{AllocError, Global};
 /// The nodes of the events so far.
 #[derive(Drop)]
 pub(crate) struct Built<'i> {
+    /// What makes room for values that no node holds itself.
+    alloc: Global,
     /// The nodes.
     nodes: Vec<Node<'i>>,
     /// The indices of the containers that are not closed yet, the innermost last.
@@ -45,6 +47,7 @@ pub(crate) fn build<'i, 't>(
     ensures within { IfErr result (λ e. RefusalWithin parser.old.buffer (refusal_of e)) }
 {
     let mut built = Built {
+        alloc,
         nodes: Vec::new(alloc),
         unclosed: Vec::new(alloc),
         room: depth,
@@ -81,8 +84,14 @@ impl<'i> Built<'i> {
         ensures { OnOk result (built_view self.new ≡ added (event_kind_of kind.entry) (built_view self.old)) }
     {
         match kind {
-            ParseEventKind::Scalar(value) => self.also(Node::Leaf(value)),
-            ParseEventKind::FieldKey(key) => self.also(Node::Key(key.name)),
+            ParseEventKind::Scalar(value) => {
+                let node = leaf_node(self.alloc, value)?;
+                self.also(node)
+            }
+            ParseEventKind::FieldKey(key) => {
+                let node = key_node(self.alloc, key.name)?;
+                self.also(node)
+            }
             ParseEventKind::SequenceStart(_) => self.begin(Node::List(0)),
             ParseEventKind::StructStart(_) => self.begin(Node::Object(0)),
             ParseEventKind::SequenceEnd => self.end(ContainerKind::Array),

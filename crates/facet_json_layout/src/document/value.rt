@@ -14,8 +14,8 @@ mod pointer;
 mod writing;
 
 use crate::document::held::{Items, Members};
-use crate::document::node::{Node, ValueKind};
-use facet_format::{Decimal, ScalarValue};
+use crate::document::node::{Leaf, Node, ValueKind};
+use facet_format::Decimal;
 
 /// A value of a document: a place in it, which is copied freely.
 #[derive(Clone, Copy)]
@@ -59,8 +59,7 @@ impl<'d, 'i> Value<'d, 'i> {
         ensures { result ≡ content.is_null (value_view self.now) }
     {
         match self.leaf() {
-            Some(ScalarValue::Null) => true,
-            Some(ScalarValue::Unit) => true,
+            Some(Leaf::Null) => true,
             _ => false,
         }
     }
@@ -75,7 +74,7 @@ impl<'d, 'i> Value<'d, 'i> {
         ensures { result ≡ content.as_bool (value_view self.now) }
     {
         match self.leaf() {
-            Some(ScalarValue::Bool(b)) => Some(*b),
+            Some(Leaf::Bool(b)) => Some(b),
             _ => None,
         }
     }
@@ -90,7 +89,7 @@ impl<'d, 'i> Value<'d, 'i> {
         ensures { option_map (λ t. t.now) result ≡ content.as_str (value_view self.now) }
     {
         match self.leaf() {
-            Some(ScalarValue::Str(text)) => Some(text.as_str()),
+            Some(Leaf::Text(text)) => Some(text),
             _ => None,
         }
     }
@@ -105,8 +104,8 @@ impl<'d, 'i> Value<'d, 'i> {
         ensures { TellsUnsigned w64 (value_view self.now) result }
     {
         match self.leaf() {
-            Some(ScalarValue::I64(n)) => u64::try_from(*n).ok(),
-            Some(ScalarValue::U64(n)) => Some(*n),
+            Some(Leaf::I64(n)) => u64::try_from(n).ok(),
+            Some(Leaf::U64(n)) => Some(n),
             _ => None,
         }
     }
@@ -121,8 +120,8 @@ impl<'d, 'i> Value<'d, 'i> {
         ensures { TellsSigned w64 (value_view self.now) result }
     {
         match self.leaf() {
-            Some(ScalarValue::I64(n)) => Some(*n),
-            Some(ScalarValue::U64(n)) => i64::try_from(*n).ok(),
+            Some(Leaf::I64(n)) => Some(n),
+            Some(Leaf::U64(n)) => i64::try_from(n).ok(),
             _ => None,
         }
     }
@@ -137,7 +136,7 @@ impl<'d, 'i> Value<'d, 'i> {
         ensures { option_map (λ d. bytes_of d.now) result ≡ content.as_decimal (value_view self.now) }
     {
         match self.leaf() {
-            Some(ScalarValue::Decimal(decimal)) => Some(decimal),
+            Some(Leaf::Decimal(decimal)) => Some(decimal),
             _ => None,
         }
     }
@@ -257,7 +256,7 @@ impl<'d, 'i> Value<'d, 'i> {
     }
 
     /// The value that holds no others, where it is one.
-    fn leaf(&self) -> Option<&'d ScalarValue<'i>>
+    fn leaf(&self) -> Option<Leaf<'d, 'i>>
         ensures { IsLeaf (value_view self.now) result }
     {
         let node = self.node(self.index)?;

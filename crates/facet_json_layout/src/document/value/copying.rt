@@ -1,17 +1,13 @@
 //! The tree of a document's value, in memory of its own.
 
 ghost use Rattle.std.specs.Prelude.{◌≡◌, ◌<◌, suc, true, length, IfOk, MatchResult};
-ghost use Rattle.std.specs.Option.{unwrap_or};
-ghost use Rattle.facet_format.specs.Views.{scalar_value_of};
-ghost use Rattle.facet_json_core.specs.Told.{tree_of_scalar};
 ghost use Rattle.facet_json_layout.specs.Inner.Looking.{from};
-ghost use Rattle.facet_json_layout.specs.Nodes.{items, members, nothing, value_view};
+ghost use Rattle.facet_json_layout.specs.Nodes.{items, leaf_view, members, nothing, value_view};
 ghost use Rattle.facet_json_tree.specs.Content.{may_allocate};
 ghost use Rattle.facet_json_tree.specs.Views.{tree_view, trees_view, pairs_view};
 
-use crate::document::node::Node;
+use crate::document::node::Leaf;
 use crate::document::value::Value;
-use facet_format::ScalarValue;
 use facet_json_tree::{OwnedDecimal, Tree};
 use std::alloc::{AllocError, Global};
 
@@ -48,12 +44,15 @@ fn copy_value(value: &Value<'_, '_>, alloc: Global) -> Result<Tree, AllocError>
     let Some(node) = value.node(value.index) else {
         return Ok(no_value(alloc));
     };
-    match node {
-        Node::Leaf(scalar) => copy_scalar(scalar, alloc),
-        Node::List(_) => Ok(Tree::List(copy_items(value, alloc)?)),
-        Node::Object(_) => Ok(Tree::Pairs(copy_members(value, alloc)?)),
-        Node::Key(_) => Ok(no_value(alloc)),
-        Node::End => Ok(no_value(alloc)),
+    if node.is_list() {
+        return Ok(Tree::List(copy_items(value, alloc)?));
+    }
+    if node.is_object() {
+        return Ok(Tree::Pairs(copy_members(value, alloc)?));
+    }
+    match node.leaf() {
+        Some(leaf) => copy_leaf(leaf, alloc),
+        None => Ok(no_value(alloc)),
     }
 }
 
@@ -90,20 +89,17 @@ fn copy_members(value: &Value<'_, '_>, alloc: Global) -> Result<Vec<(String, Tre
 }
 
 /// The tree of a value that holds no others.
-fn copy_scalar(value: &ScalarValue<'_>, alloc: Global) -> Result<Tree, AllocError>
-    ensures { MatchResult result
-        (λ t. tree_view t ≡ unwrap_or (tree_of_scalar (scalar_value_of value.now)) nothing)
-        (λ _. may_allocate (unwrap_or (tree_of_scalar (scalar_value_of value.now)) nothing) ≡ true) }
+fn copy_leaf(leaf: Leaf<'_, '_>, alloc: Global) -> Result<Tree, AllocError>
+    ensures { MatchResult result (λ t. tree_view t ≡ leaf_view leaf.entry) (λ _. may_allocate (leaf_view leaf.entry) ≡ true) }
 {
-    match value {
-        ScalarValue::Null => Ok(Tree::Null),
-        ScalarValue::Unit => Ok(Tree::Null),
-        ScalarValue::Bool(b) => Ok(Tree::Bool(*b)),
-        ScalarValue::I64(n) => Ok(Tree::I64(*n)),
-        ScalarValue::U64(n) => Ok(Tree::U64(*n)),
-        ScalarValue::Decimal(decimal) => Ok(Tree::Decimal(OwnedDecimal::new(alloc, decimal)?)),
-        ScalarValue::Str(text) => Ok(Tree::Text(String::from_str(alloc, text.as_str())?)),
-        _ => Ok(no_value(alloc)),
+    match leaf {
+        Leaf::Null => Ok(Tree::Null),
+        Leaf::Bool(b) => Ok(Tree::Bool(b)),
+        Leaf::I64(n) => Ok(Tree::I64(n)),
+        Leaf::U64(n) => Ok(Tree::U64(n)),
+        Leaf::Decimal(decimal) => Ok(Tree::Decimal(OwnedDecimal::new(alloc, decimal)?)),
+        Leaf::Text(text) => Ok(Tree::Text(String::from_str(alloc, text)?)),
+        Leaf::Other => Ok(no_value(alloc)),
     }
 }
 

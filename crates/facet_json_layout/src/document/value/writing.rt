@@ -1,17 +1,14 @@
 //! A document's value, written by a serializer's calls.
 
 ghost use Rattle.std.specs.Prelude.{◌≡◌, ◌<◌, suc, None, length, IfErr, OnOk, OnErr};
-ghost use Rattle.std.specs.Option.{unwrap_or};
-ghost use Rattle.facet_format.specs.Views.{scalar_value_of};
-ghost use Rattle.facet_json_core.specs.Told.{tree_of_scalar};
 ghost use Rattle.facet_json_document.specs.Tree.{list, pairs};
 ghost use Rattle.facet_json_layout.specs.Inner.Looking.{from};
-ghost use Rattle.facet_json_layout.specs.Nodes.{items, members, nothing, value_view};
+ghost use Rattle.facet_json_layout.specs.Nodes.{items, leaf_view, members, nothing, value_view};
 ghost use Rattle.facet_json_serializer.specs.Serializer.{out_of_memory};
 ghost use Rattle.facet_json_serializer.specs.Views.{write_refusal_of};
 ghost use Rattle.facet_json_tree.specs.Write.{HasWritten};
 
-use crate::document::node::Node;
+use crate::document::node::Leaf;
 use crate::document::value::Value;
 use facet_format::{FormatSerializer, ScalarValue};
 use facet_json_serializer::{JsonSerializeError, JsonSerializer};
@@ -54,12 +51,15 @@ fn write_value(
     let Some(node) = value.node(value.index) else {
         return write_nothing(serializer);
     };
-    match node {
-        Node::Leaf(scalar) => write_scalar(serializer, scalar),
-        Node::List(_) => write_items(serializer, value),
-        Node::Object(_) => write_members(serializer, value),
-        Node::Key(_) => write_nothing(serializer),
-        Node::End => write_nothing(serializer),
+    if node.is_list() {
+        return write_items(serializer, value);
+    }
+    if node.is_object() {
+        return write_members(serializer, value);
+    }
+    match node.leaf() {
+        Some(leaf) => write_leaf(serializer, leaf),
+        None => write_nothing(serializer),
     }
 }
 
@@ -105,25 +105,22 @@ fn write_members(
 }
 
 /// Writes a value that holds no others.
-fn write_scalar(
+fn write_leaf(
     serializer: &mut JsonSerializer<'_>,
-    value: &ScalarValue<'_>,
+    leaf: Leaf<'_, '_>,
 ) -> Result<(), JsonSerializeError>
-    ensures written { OnOk result (HasWritten serializer.old (unwrap_or (tree_of_scalar (scalar_value_of value.now)) nothing) serializer.new) }
+    ensures written { OnOk result (HasWritten serializer.old (leaf_view leaf.entry) serializer.new) }
     ensures refused { IfErr result (λ e. write_refusal_of e ≡ out_of_memory) }
     ensures spent { OnErr result (serializer.new ≡ None) }
 {
-    match value {
-        ScalarValue::Null => serializer.scalar(ScalarValue::Null),
-        ScalarValue::Unit => serializer.scalar(ScalarValue::Null),
-        ScalarValue::Bool(b) => serializer.scalar(ScalarValue::Bool(*b)),
-        ScalarValue::I64(n) => serializer.scalar(ScalarValue::I64(*n)),
-        ScalarValue::U64(n) => serializer.scalar(ScalarValue::U64(*n)),
-        ScalarValue::Decimal(decimal) => serializer.raw_scalar(decimal.as_str()),
-        ScalarValue::Str(text) => serializer.scalar(ScalarValue::Str(CowStr::Borrowed(
-            text.as_str(),
-        ))),
-        _ => write_nothing(serializer),
+    match leaf {
+        Leaf::Null => serializer.scalar(ScalarValue::Null),
+        Leaf::Bool(b) => serializer.scalar(ScalarValue::Bool(b)),
+        Leaf::I64(n) => serializer.scalar(ScalarValue::I64(n)),
+        Leaf::U64(n) => serializer.scalar(ScalarValue::U64(n)),
+        Leaf::Decimal(decimal) => serializer.raw_scalar(decimal.as_str()),
+        Leaf::Text(text) => serializer.scalar(ScalarValue::Str(CowStr::Borrowed(text))),
+        Leaf::Other => write_nothing(serializer),
     }
 }
 

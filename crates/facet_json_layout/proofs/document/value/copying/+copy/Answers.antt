@@ -1,12 +1,10 @@
-use Rattle.std.proofs.Common.{◌≡◌, true, sym, ap, ◌∙◌}
-use Rattle.std.specs.Prelude.{MatchResult}
+use Rattle.std.proofs.Common.{sym, ap, ◌∙◌}
 use Rattle.std.proofs.lemmas.Result.{err_from_is_err_and}
 use Rattle.facet_json_document.specs.Tree as trees
 use Rattle.facet_json_tree.proofs.TreeViews.{tree_view-List, tree_view-Pairs}
 use Rattle.facet_json_tree.specs.Content.{may_allocate}
-use Rattle.facet_json_tree.specs.Views.{tree_view}
-use Rattle.facet_json_layout.proofs.NodesSeen.{empty-value}
-use Rattle.facet_json_layout.proofs.TreesCopied.{items-copied, members-copied, value-of_node, said-of_node}
+use Rattle.facet_json_layout.proofs.NodesSeen.{empty-value, list-of, object-of, leaf-of, nothing-of}
+use Rattle.facet_json_layout.proofs.TreesCopied.{items-copied, members-copied}
 use Rattle.facet_json_layout.proofs.document.value.copying.+copy.Goals as goal
 
 pub copy_items-returns : goal.copy_items-returns
@@ -20,33 +18,29 @@ copy_members-returns t c =
 pub copy_value-returns-in_default : goal.copy_value-returns-in_default
 copy_value-returns-in_default t c = c.no_value.ensures ∙ sym (empty-value c.args.value.now c.in_default.ensures)
 
-pub copy_value-returns-in_err-copy_items-in-List : goal.copy_value-returns-in_err-copy_items-in-List
-copy_value-returns-in_err-copy_items-in-List t c =
+pub copy_value-returns-in_err-copy_items : goal.copy_value-returns-in_err-copy_items
+copy_value-returns-in_err-copy_items t c =
     let p = err_from_is_err_and c.from_residual.result c.from_residual.ensures.1 in
-    rw p.1 (ap may_allocate (value-of_node c.args.value.now _ _ c.in-Some.ensures c.in-List.is))
+    rw p.1 (ap may_allocate (list-of c.args.value.now _ c.in-Some.ensures (sym c.if-is_list.ensures)))
 
-pub copy_value-returns-in_err-copy_members-in-Object : goal.copy_value-returns-in_err-copy_members-in-Object
-copy_value-returns-in_err-copy_members-in-Object t c =
-    let p = err_from_is_err_and c.from_residual-in_err-copy_members-in-Object.result c.from_residual-in_err-copy_members-in-Object.ensures.1 in
-    rw p.1 (ap may_allocate (value-of_node c.args.value.now _ _ c.in-Some.ensures c.in-Object.is))
+pub copy_value-returns-then-is_list : goal.copy_value-returns-then-is_list
+copy_value-returns-then-is_list t c =
+    tree_view-List _ ∙ ap trees.list c.in_ok-copy_items.ensures ∙ sym (list-of c.args.value.now _ c.in-Some.ensures (sym c.if-is_list.ensures))
 
-pub copy_value-returns-in-Leaf : goal.copy_value-returns-in-Leaf
-copy_value-returns-in-Leaf t c =
-    said-of_node c.args.value.now _ _ (λ u. MatchResult c.copy_scalar.result (λ x. tree_view x ≡ u) (λ _. may_allocate u ≡ true)) c.in-Some.ensures c.in-Leaf.is
-    c.copy_scalar.ensures
+pub copy_value-returns-in_err-copy_members : goal.copy_value-returns-in_err-copy_members
+copy_value-returns-in_err-copy_members t c =
+    let p = err_from_is_err_and c.from_residual-in_err-copy_members.result c.from_residual-in_err-copy_members.ensures.1 in
+    rw p.1 (ap may_allocate (object-of c.args.value.now _ c.in-Some.ensures (sym c.if-is_object.ensures)))
 
-pub copy_value-returns-in_ok-copy_items-in-List : goal.copy_value-returns-in_ok-copy_items-in-List
-copy_value-returns-in_ok-copy_items-in-List t c =
-    tree_view-List _ ∙ ap trees.list c.in_ok-copy_items-in-List.ensures
-    ∙ sym (value-of_node c.args.value.now _ _ c.in-Some.ensures c.in-List.is)
+pub copy_value-returns-then-is_object : goal.copy_value-returns-then-is_object
+copy_value-returns-then-is_object t c =
+    tree_view-Pairs _ ∙ ap trees.pairs c.in_ok-copy_members.ensures
+    ∙ sym (object-of c.args.value.now _ c.in-Some.ensures (sym c.if-is_object.ensures))
 
-pub copy_value-returns-in_ok-copy_members-in-Object : goal.copy_value-returns-in_ok-copy_members-in-Object
-copy_value-returns-in_ok-copy_members-in-Object t c =
-    tree_view-Pairs _ ∙ ap trees.pairs c.in_ok-copy_members-in-Object.ensures
-    ∙ sym (value-of_node c.args.value.now _ _ c.in-Some.ensures c.in-Object.is)
+pub copy_value-returns-in-Some-leaf : goal.copy_value-returns-in-Some-leaf
+copy_value-returns-in-Some-leaf t c = rw (leaf-of c.args.value.now _ _ c.in-Some.ensures c.in-Some-leaf.ensures) c.copy_leaf.ensures
 
-pub copy_value-returns-in-Key : goal.copy_value-returns-in-Key
-copy_value-returns-in-Key t c = c.no_value-in-Key.ensures ∙ sym (value-of_node c.args.value.now _ _ c.in-Some.ensures c.in-Key.is)
-
-pub copy_value-returns-in-End : goal.copy_value-returns-in-End
-copy_value-returns-in-End t c = c.no_value-in-End.ensures ∙ sym (value-of_node c.args.value.now _ _ c.in-Some.ensures c.in-End.is)
+pub copy_value-returns-in-None : goal.copy_value-returns-in-None
+copy_value-returns-in-None t c =
+    c.no_value-in-None.ensures
+    ∙ sym (nothing-of c.args.value.now _ c.in-Some.ensures c.in-None.ensures (sym c.if-is_list.ensures) (sym c.if-is_object.ensures))

@@ -1,9 +1,6 @@
-use Rattle.std.proofs.Common.{rules, arith}
-use Rattle.std.specs.Result.{OnOk}
-use Rattle.facet_json_tree.specs.Write.{HasWritten}
-use Rattle.facet_json_layout.proofs.NodesSeen.{empty-value}
+use Rattle.std.proofs.Common.{sym, rules, arith}
+use Rattle.facet_json_layout.proofs.NodesSeen.{empty-value, list-of, object-of, leaf-of, nothing-of}
 use Rattle.facet_json_layout.proofs.NodesWritten.{items-begun, members-begun, item-written, member-written, key-refused, key-spent, items-ended, members-ended}
-use Rattle.facet_json_layout.proofs.TreesCopied.{value-of_node, said-of_node}
 use Rattle.facet_json_layout.proofs.document.value.writing.+write.Goals as goal
 
 pub write_items-returns-clause-written : goal.write_items-returns-clause-written
@@ -31,31 +28,24 @@ write_members-returns-clause-spent t c =
     (members-ended c.args.value.now _ _ _ c.loop-key.at _ c.loop-key.invariant.left c.in_default.ensures c.end_struct.ensures.appends).spent
 
 pub write_value-returns-in_default-clause-written : goal.write_value-returns-in_default-clause-written
-write_value-returns-in_default-clause-written t c =
-    rw (empty-value c.args.value.now c.in_default.ensures) c.write_nothing.ensures.written
+write_value-returns-in_default-clause-written t c = rw (empty-value c.args.value.now c.in_default.ensures) c.write_nothing.ensures.written
 
-pub write_value-returns-in-Leaf-clause-written : goal.write_value-returns-in-Leaf-clause-written
-write_value-returns-in-Leaf-clause-written t c =
-    said-of_node c.args.value.now _ _ (λ u. OnOk c.write_scalar.result (HasWritten c.args.serializer.now u c.write_scalar.new.serializer))
-    c.in-Some.ensures c.in-Leaf.is c.write_scalar.ensures.written
+pub write_value-returns-then-is_list-clause-written : goal.write_value-returns-then-is_list-clause-written
+write_value-returns-then-is_list-clause-written t c =
+    rw (list-of c.args.value.now _ c.in-Some.ensures (sym c.if-is_list.ensures)) c.write_items.ensures.written
 
-pub write_value-returns-in-List-clause-written : goal.write_value-returns-in-List-clause-written
-write_value-returns-in-List-clause-written t c =
-    said-of_node c.args.value.now _ _ (λ u. OnOk c.write_items.result (HasWritten c.args.serializer.now u c.write_items.new.serializer))
-    c.in-Some.ensures c.in-List.is c.write_items.ensures.written
+pub write_value-returns-then-is_object-clause-written : goal.write_value-returns-then-is_object-clause-written
+write_value-returns-then-is_object-clause-written t c =
+    rw (object-of c.args.value.now _ c.in-Some.ensures (sym c.if-is_object.ensures)) c.write_members.ensures.written
 
-pub write_value-returns-in-Object-clause-written : goal.write_value-returns-in-Object-clause-written
-write_value-returns-in-Object-clause-written t c =
-    said-of_node c.args.value.now _ _ (λ u. OnOk c.write_members.result (HasWritten c.args.serializer.now u c.write_members.new.serializer))
-    c.in-Some.ensures c.in-Object.is c.write_members.ensures.written
+pub write_value-returns-in-Some-leaf-clause-written : goal.write_value-returns-in-Some-leaf-clause-written
+write_value-returns-in-Some-leaf-clause-written t c =
+    rw (leaf-of c.args.value.now _ _ c.in-Some.ensures c.in-Some-leaf.ensures) c.write_leaf.ensures.written
 
-pub write_value-returns-in-Key-clause-written : goal.write_value-returns-in-Key-clause-written
-write_value-returns-in-Key-clause-written t c =
-    rw (value-of_node c.args.value.now _ _ c.in-Some.ensures c.in-Key.is) c.write_nothing-in-Key.ensures.written
-
-pub write_value-returns-in-End-clause-written : goal.write_value-returns-in-End-clause-written
-write_value-returns-in-End-clause-written t c =
-    rw (value-of_node c.args.value.now _ _ c.in-Some.ensures c.in-End.is) c.write_nothing-in-End.ensures.written
+pub write_value-returns-in-None-clause-written : goal.write_value-returns-in-None-clause-written
+write_value-returns-in-None-clause-written t c =
+    rw (nothing-of c.args.value.now _ c.in-Some.ensures c.in-None.ensures (sym c.if-is_list.ensures) (sym c.if-is_object.ensures))
+    c.write_nothing-in-None.ensures.written
 
 pub write_items-loop-next-init : goal.write_items-loop-next-init
 write_items-loop-next-init t c = record {
