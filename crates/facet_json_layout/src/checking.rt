@@ -133,7 +133,6 @@ fn pass_up<'t>(parser: &mut JsonParser<'_>) -> Result<Span, DeserializeError<'t>
 }
 
 /// Passes the next event, and says whether there was one.
-#[inline(always)]
 fn passes_event<'t>(parser: &mut JsonParser<'_>) -> Result<bool, DeserializeError<'t>>
     ensures passed { IfOk result (λ some. Told some parser.old parser.new) }
     ensures refused { IfErr result (λ e. Moves parser.old next (event (Err (refusal_of e))) parser.new) }
