@@ -1,5 +1,6 @@
 //! Documents of nodes that are read within a depth: how deep they may nest, and how they are refused beyond it.
 
+use crate::holding::all_hold;
 use facet_format::{DeserializeError, DeserializeErrorKind, Span};
 use facet_json::Document;
 use std::alloc::Global;
@@ -88,9 +89,14 @@ fn depths_are_kept(rt: HostRuntime) {
     let alloc = rt.alloc();
     for &(text, depth, plain, jsonc, strict) in &ROWS {
         let input = text.as_bytes();
-        assert!(rt; is_wanted(Document::parse_within(alloc, input, depth), plain));
-        assert!(rt; is_wanted(Document::parse_within_jsonc(alloc, input, depth), jsonc));
-        assert!(rt; is_wanted(Document::parse_within_strict(alloc, input, depth), strict));
+        all_hold(
+            &rt,
+            &[
+                is_wanted(Document::parse_within(alloc, input, depth), plain),
+                is_wanted(Document::parse_within_jsonc(alloc, input, depth), jsonc),
+                is_wanted(Document::parse_within_strict(alloc, input, depth), strict),
+            ],
+        );
     }
 }
 

@@ -1,4 +1,4 @@
--- The trees that were copied of a list's items and an object's members are theirs, and a value is what its node tells.
+-- The trees that were copied of a list's items and an object's members are theirs.
 use Rattle.std.proofs.Common.{◌≡◌, ℕ, suc, List, [], ◌∷◌, ◌++◌, map, drop, get_or, refl, sym, ap, ap₂, ◌∙◌, String, Global, string_bytes}
 use Rattle.std.proofs.lemmas.List.{append-nil}
 use Rattle.facet_json_document.specs.Tree.{Tree, Trees, no_trees, tree, Pairs, no_pairs, pair}

@@ -13,8 +13,8 @@ use facet_format::{Decimal, ScalarValue};
 use std::alloc::{AllocError, Global};
 use std::borrow::CowStr;
 
-/// A node: of a value, a key, or a container's end. What lies in the input and whole numbers stand in the node itself, others in a box, so that a
-/// node takes 24 bytes.
+/// A node: of a value, a key, or a container's end. A truth value, a whole number of 64 bits, and a text or name that the input has as it is, stand
+/// in the node itself, others in a box, so that a node takes 24 bytes.
 #[derive(Drop)]
 pub enum Node<'i> {
     /// `null`
@@ -27,7 +27,7 @@ pub enum Node<'i> {
     U64(u64),
     /// A text in the input.
     Text(&'i str),
-    /// Any other value that holds no others: a decimal, or a text with escapes.
+    /// Any other value that holds no others: a decimal, a text with escapes, or the digits of a whole number past 64 bits.
     Held(Box<ScalarValue<'i>>),
     /// The name of a member, in the input; its value begins at the next node.
     Key(&'i str),
