@@ -8,7 +8,7 @@ ghost use Rattle.facet_json_serde.specs.Ahead.{StepGives, Picks, StepReads, Stay
 use crate::fault::{ReadFault, ReadFaultKind, Sort};
 use crate::found::kind_of;
 use crate::json::{Ahead, Json};
-use crate::one_event::{FieldsStart, OfEvent, Unread};
+use crate::one_event::{FieldsStart, OfEvent, Unread, finite_f32, finite_f64};
 use facet_format::{Decimal, ParseEvent, ParseEventKind, Span};
 use facet_json_reader::{ListEnd, ListStart, ObjectStart, Sought, Whole};
 use serde::{Format, Kind, Name};
@@ -189,9 +189,9 @@ impl<'de> Format for Json<'de> {
         let Some(decimal) = self.plain::<Decimal<'_>>() else {
             return Ok(self.scalar(input)?);
         };
-        match fast_float::parse::<f32, _>(decimal.as_str()) {
-            Ok(x) if x.is_finite() => Ok(x),
-            _ => Err(out_of_range(Sort::F32, self.last)),
+        match finite_f32(decimal.as_str().as_bytes()) {
+            Some(x) => Ok(x),
+            None => Err(out_of_range(Sort::F32, self.last)),
         }
     }
 
@@ -200,9 +200,9 @@ impl<'de> Format for Json<'de> {
         let Some(decimal) = self.plain::<Decimal<'_>>() else {
             return Ok(self.scalar(input)?);
         };
-        match fast_float::parse::<f64, _>(decimal.as_str()) {
-            Ok(x) if x.is_finite() => Ok(x),
-            _ => Err(out_of_range(Sort::F64, self.last)),
+        match finite_f64(decimal.as_str().as_bytes()) {
+            Some(x) => Ok(x),
+            None => Err(out_of_range(Sort::F64, self.last)),
         }
     }
 

@@ -1,6 +1,6 @@
 //! JSON as a `Format` of `serde`'s: the events of a parser, and a look ahead of one. Here is what the steps of `format` stand on.
 
-ghost use Rattle.std.specs.Prelude.{◌≡◌, true, [], IfOk, OnOk, MatchBool, MatchOption};
+ghost use Rattle.std.specs.Prelude.{◌≡◌, true, [], IfOk, IfSome, OnOk, MatchBool, MatchOption};
 ghost use Rattle.std.specs.Cow.{cow_str_bytes};
 ghost use Rattle.facet_format.specs.Views.{event_of, span_of};
 ghost use Rattle.facet_json_document.specs.Move.{with_kept};
@@ -40,7 +40,6 @@ impl Drop for Came<'_> {
 }
 
 /// What stands before the parser's next event.
-#[derive(Drop)]
 pub(crate) enum Ahead<'de> {
     /// Nothing: the parser's next event comes.
     Nothing,
@@ -50,6 +49,30 @@ pub(crate) enum Ahead<'de> {
     Back,
     /// No event ever: reading failed so, and no rewind brings it back.
     Stopped(ReadFaultKind, Span),
+}
+
+impl<'de> Ahead<'de> {
+    /// The event, where one is ahead.
+    #[inline(always)]
+    fn event(self) -> Option<Came<'de>>
+        ensures { IfSome result (λ e. self.entry ≡ Ahead.Event e) }
+    {
+        match self {
+            Ahead::Event(event) => Some(event),
+            Ahead::Nothing | Ahead::Back | Ahead::Stopped(_, _) => None,
+        }
+    }
+}
+
+/// By a call, so that a proof about a step need not take it apart.
+impl Drop for Ahead<'_> {
+    #[inline(always)]
+    fn drop(self) {
+        match self {
+            Ahead::Event(_) => {}
+            Ahead::Nothing | Ahead::Back | Ahead::Stopped(_, _) => {}
+        }
+    }
 }
 
 /// A place to come back to.
@@ -159,10 +182,7 @@ impl<'de> Json<'de> {
         }
         match self.parser.next_event() {
             Ok(None) => Ok(()),
-            Ok(Some(event)) => {
-                let event = Came(event);
-                Err(self.mismatch(Sort::EndOfInput, &event.0.kind, event.0.span))
-            }
+            Ok(Some(event)) => Err(self.unwanted(Sort::EndOfInput, Came(event))),
             Err(refused) => Err(self.stop(ReadFaultKind::Parser, refused.span)),
         }
     }
@@ -211,6 +231,13 @@ impl<'de> Json<'de> {
             ReadFaultKind::Mismatch(wanted, found_in(kind, is_quoted)),
             span,
         )
+    }
+
+    /// The same, once the event has come.
+    #[cold]
+    #[inline(never)]
+    fn unwanted(&self, wanted: Sort, event: Came<'_>) -> ReadFault {
+        self.mismatch(wanted, &event.0.kind, event.0.span)
     }
 
     /// What was wanted, and is not there: where a whole number stands there, it is too great.
@@ -321,20 +348,21 @@ impl<'de> Json<'de> {
         ensures passes { IfOk result (λ e. StepPasses self.old (event_of e.0) self.new) }
         ensures free { OnOk result (self.new.ahead ≡ Ahead.Nothing) }
     {
-        match std::mem::replace(&mut self.ahead, Ahead::Nothing) {
-            Ahead::Event(event) => {
+        match &self.ahead {
+            Ahead::Event(_) => {}
+            Ahead::Nothing => return self.read(),
+            Ahead::Back => {
+                self.keep_again()?;
+                return self.read();
+            }
+            Ahead::Stopped(kind, span) => return Err(ReadFault::at(*kind, *span)),
+        }
+        match std::mem::replace(&mut self.ahead, Ahead::Nothing).event() {
+            Some(event) => {
                 self.last = event.0.span;
                 Ok(event)
             }
-            Ahead::Nothing => self.read(),
-            Ahead::Back => {
-                self.keep_again()?;
-                self.read()
-            }
-            Ahead::Stopped(kind, span) => {
-                self.ahead = Ahead::Stopped(kind, span);
-                Err(ReadFault::at(kind, span))
-            }
+            None => Err(self.error(ReadFaultKind::Ended)),
         }
     }
 
@@ -415,7 +443,7 @@ impl<'de> Json<'de> {
         match kind {
             ParseEventKind::Scalar(ScalarValue::Str(text)) if !at_key => quoted(text, input, span),
             ParseEventKind::FieldKey(key) if at_key => Ok(key.name),
-            kind => Err(self.mismatch(Sort::String, &kind, span)),
+            kind => Err(self.unwanted(Sort::String, Came(ParseEvent { kind, span }))),
         }
     }
 
@@ -452,7 +480,7 @@ impl<'de> Json<'de> {
         match kind {
             ParseEventKind::FieldKey(key) => Ok(Some(key.name)),
             ParseEventKind::StructEnd => Ok(None),
-            kind => Err(self.mismatch(Sort::Key, &kind, span)),
+            kind => Err(self.unwanted(Sort::Key, Came(ParseEvent { kind, span }))),
         }
     }
 

@@ -1,7 +1,10 @@
 //! What a step reads of one event, where a few bytes do not decide it.
 
-ghost use Rattle.std.specs.Prelude.{IfOk};
-ghost use Rattle.facet_format.specs.Views.{event_of};
+ghost use Rattle.std.specs.Prelude.{◌≡◌, Some, IfOk, IfSome};
+ghost use Rattle.std.specs.Float.Ieee.{binary32, binary64};
+ghost use Rattle.std.specs.Float.Parse.{parse_float};
+ghost use Rattle.facet_format.specs.Views.{event_of, event_kind_of};
+ghost use Rattle.facet_json_serde.specs.Ahead.{HoldsKey};
 
 use crate::fault::Sort;
 use crate::found::{digits_in, number_in, number_key};
@@ -53,6 +56,16 @@ impl OfEvent for bool {
     }
 }
 
+/// The number that a key is (RFC 8259, section 6).
+fn key_number<'a>(event: &'a ParseEvent<'_>) -> Result<&'a [u8], Unread>
+    ensures { IfOk result (λ t. HoldsKey (event_kind_of event.now.kind) t.now) }
+{
+    match &event.kind {
+        ParseEventKind::FieldKey(key) => number_key(key.name.as_str()).ok_or(Unread::Invalid),
+        _ => Err(Unread::Other(Sort::String)),
+    }
+}
+
 /// A whole number.
 impl OfEvent for i64 {
     ghost use Rattle.facet_json_serde.specs.Ahead.{IsSigned};
@@ -60,15 +73,10 @@ impl OfEvent for i64 {
     ghost is = { λ input given v. IsSigned given.kind v };
 
     fn of_event(event: &ParseEvent<'_>, at_key: bool, _input: &[u8]) -> Result<i64, Unread> {
+        if at_key {
+            return fast_float::parse_i64(key_number(event)?).or(Err(Unread::Invalid));
+        }
         match &event.kind {
-            ParseEventKind::FieldKey(key) if at_key => {
-                let number = number_key(key.name.as_str()).ok_or(Unread::Invalid)?;
-                match fast_float::parse_i64(number) {
-                    Ok(n) => Ok(n),
-                    Err(_) => Err(Unread::Invalid),
-                }
-            }
-            _ if at_key => Err(Unread::Other(Sort::String)),
             ParseEventKind::Scalar(ScalarValue::I64(n)) => Ok(*n),
             ParseEventKind::Scalar(ScalarValue::U64(n)) => match i64::try_from(*n) {
                 Ok(n) => Ok(n),
@@ -86,15 +94,10 @@ impl OfEvent for u64 {
     ghost is = { λ input given v. IsUnsigned given.kind v };
 
     fn of_event(event: &ParseEvent<'_>, at_key: bool, _input: &[u8]) -> Result<u64, Unread> {
+        if at_key {
+            return fast_float::parse_u64(key_number(event)?).or(Err(Unread::Invalid));
+        }
         match &event.kind {
-            ParseEventKind::FieldKey(key) if at_key => {
-                let number = number_key(key.name.as_str()).ok_or(Unread::Invalid)?;
-                match fast_float::parse_u64(number) {
-                    Ok(n) => Ok(n),
-                    Err(_) => Err(Unread::Invalid),
-                }
-            }
-            _ if at_key => Err(Unread::Other(Sort::String)),
             ParseEventKind::Scalar(ScalarValue::U64(n)) => Ok(*n),
             ParseEventKind::Scalar(ScalarValue::I64(n)) => match u64::try_from(*n) {
                 Ok(n) => Ok(n),
@@ -147,6 +150,28 @@ impl OfEvent for u128 {
     }
 }
 
+/// The float that is nearest to the number of this text, unless it is none or past all that are finite.
+#[inline(always)]
+pub(crate) fn finite_f32(text: &[u8]) -> Option<f32>
+    ensures { IfSome result (λ x. parse_float binary32 text.now ≡ Some x) }
+{
+    match fast_float::parse::<f32, _>(text) {
+        Ok(x) if x.is_finite() => Some(x),
+        _ => None,
+    }
+}
+
+/// The same of 64 bits.
+#[inline(always)]
+pub(crate) fn finite_f64(text: &[u8]) -> Option<f64>
+    ensures { IfSome result (λ x. parse_float binary64 text.now ≡ Some x) }
+{
+    match fast_float::parse::<f64, _>(text) {
+        Ok(x) if x.is_finite() => Some(x),
+        _ => None,
+    }
+}
+
 /// A number as a float: a whole one, or a key, or one with a fraction or an exponent.
 impl OfEvent for f32 {
     ghost use Rattle.std.specs.Float.Ieee.{binary32};
@@ -156,10 +181,7 @@ impl OfEvent for f32 {
 
     fn of_event(event: &ParseEvent<'_>, at_key: bool, input: &[u8]) -> Result<f32, Unread> {
         let text = number_in(event, at_key, input).ok_or(Unread::Other(Sort::F32))?;
-        match fast_float::parse::<f32, _>(text) {
-            Ok(x) if x.is_finite() => Ok(x),
-            _ => Err(Unread::OutOfRange(Sort::F32)),
-        }
+        finite_f32(text).ok_or(Unread::OutOfRange(Sort::F32))
     }
 }
 
@@ -172,10 +194,7 @@ impl OfEvent for f64 {
 
     fn of_event(event: &ParseEvent<'_>, at_key: bool, input: &[u8]) -> Result<f64, Unread> {
         let text = number_in(event, at_key, input).ok_or(Unread::Other(Sort::F64))?;
-        match fast_float::parse::<f64, _>(text) {
-            Ok(x) if x.is_finite() => Ok(x),
-            _ => Err(Unread::OutOfRange(Sort::F64)),
-        }
+        finite_f64(text).ok_or(Unread::OutOfRange(Sort::F64))
     }
 }
 

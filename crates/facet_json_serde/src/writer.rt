@@ -154,6 +154,19 @@ impl<'i> JsonWriter<'i> {
         self.settle(answer)
     }
 
+    /// Writes a value that holds no others; as a key, what is displayed of it.
+    #[inline(always)]
+    fn shown<T: fmt::Display>(&mut self, key: &T, value: ScalarValue<'_>) -> Result<(), WriteFault>
+        requires { IsTree (scalar_value_of value) }
+    {
+        self.not_flat()?;
+        if self.at_key {
+            self.printed(key)?;
+            return Ok(());
+        }
+        self.scalar(value)
+    }
+
     /// Writes the room's text, as a key or as a value.
     fn room_text(&mut self, is_key: bool) -> Result<(), WriteFault> {
         let text = self.room.as_str();
@@ -255,50 +268,25 @@ impl<'i> Serializer for JsonWriter<'i> {
 
     #[inline(always)]
     fn bool(&mut self, v: bool) -> Result<(), WriteFault> {
-        self.not_flat()?;
-        if self.at_key {
-            self.printed(&v)?;
-            return Ok(());
-        }
-        self.scalar(ScalarValue::Bool(v))
+        self.shown(&v, ScalarValue::Bool(v))
     }
 
     #[inline(always)]
     fn i64(&mut self, v: i64) -> Result<(), WriteFault> {
-        self.not_flat()?;
-        if self.at_key {
-            self.printed(&v)?;
-            return Ok(());
-        }
-        self.scalar(ScalarValue::I64(v))
+        self.shown(&v, ScalarValue::I64(v))
     }
 
     #[inline(always)]
     fn u64(&mut self, v: u64) -> Result<(), WriteFault> {
-        self.not_flat()?;
-        if self.at_key {
-            self.printed(&v)?;
-            return Ok(());
-        }
-        self.scalar(ScalarValue::U64(v))
+        self.shown(&v, ScalarValue::U64(v))
     }
 
     fn i128(&mut self, v: i128) -> Result<(), WriteFault> {
-        self.not_flat()?;
-        if self.at_key {
-            self.printed(&v)?;
-            return Ok(());
-        }
-        self.scalar(ScalarValue::I128(v))
+        self.shown(&v, ScalarValue::I128(v))
     }
 
     fn u128(&mut self, v: u128) -> Result<(), WriteFault> {
-        self.not_flat()?;
-        if self.at_key {
-            self.printed(&v)?;
-            return Ok(());
-        }
-        self.scalar(ScalarValue::U128(v))
+        self.shown(&v, ScalarValue::U128(v))
     }
 
     #[tactic(auto, using(crate::proofs::FloatTexts::plain_has_value))]
@@ -321,12 +309,7 @@ impl<'i> Serializer for JsonWriter<'i> {
     }
 
     fn char(&mut self, v: char) -> Result<(), WriteFault> {
-        self.not_flat()?;
-        if self.at_key {
-            self.printed(&v)?;
-            return Ok(());
-        }
-        self.scalar(ScalarValue::Char(v))
+        self.shown(&v, ScalarValue::Char(v))
     }
 
     #[inline(always)]
