@@ -1,6 +1,5 @@
 //! Values that may be null, lists and maps.
 
-use crate::holding::all_hold;
 use crate::typed::{is_itself, mismatch, out_of_range, reads, refuses, writes};
 use facet_format::Span;
 use facet_json::from_slice;
@@ -10,14 +9,9 @@ use std::collections::BTreeMap;
 #[test]
 fn a_value_may_be_null(rt: HostRuntime) {
     let alloc = rt.alloc();
-    all_hold(
-        &rt,
-        &[
-            is_itself(alloc, "null", &None::<u8>),
-            is_itself(alloc, "7", &Some(7_u8)),
-            refuses::<Option<u8>>(alloc, "300", out_of_range("u8"), Span::new(0, 3)),
-        ],
-    );
+    assert!(rt; is_itself(alloc, "null", &None::<u8>));
+    assert!(rt; is_itself(alloc, "7", &Some(7_u8)));
+    assert!(rt; refuses::<Option<u8>>(alloc, "300", out_of_range("u8"), Span::new(0, 3)));
 }
 
 /// Whether the list of 1 and null is read, and written again.
@@ -47,16 +41,11 @@ fn lists_are_nested(alloc: Global) -> bool {
 #[test]
 fn lists_are_read_and_written(rt: HostRuntime) {
     let alloc = rt.alloc();
-    all_hold(
-        &rt,
-        &[
-            is_itself(alloc, "[]", &Vec::<u8>::new(alloc)),
-            list_is_itself(alloc),
-            lists_are_nested(alloc),
-            refuses::<Vec<u8>>(alloc, "{}", mismatch("array", "object"), Span::new(0, 1)),
-            refuses::<Vec<u8>>(alloc, "[1, 300]", out_of_range("u8"), Span::new(4, 3)),
-        ],
-    );
+    assert!(rt; is_itself(alloc, "[]", &Vec::<u8>::new(alloc)));
+    assert!(rt; list_is_itself(alloc));
+    assert!(rt; lists_are_nested(alloc));
+    assert!(rt; refuses::<Vec<u8>>(alloc, "{}", mismatch("array", "object"), Span::new(0, 1)));
+    assert!(rt; refuses::<Vec<u8>>(alloc, "[1, 300]", out_of_range("u8"), Span::new(4, 3)));
 }
 
 /// Whether the object is read as a map that is written so.
@@ -70,25 +59,14 @@ fn is_written_again(alloc: Global, input: &str, text: &str) -> bool {
 #[test]
 fn maps_are_read_and_written(rt: HostRuntime) {
     let alloc = rt.alloc();
-    all_hold(
-        &rt,
-        &[
-            is_written_again(alloc, "{}", "{}"),
-            is_written_again(alloc, "{\"b\":1,\"a\":2}", "{\"a\":2,\"b\":1}"),
-            is_written_again(alloc, "{\"a\":1,\"a\":2}", "{\"a\":2}"),
-            is_written_again(alloc, "{\"a\":1,\"\\u0061\":2}", "{\"a\":2}"),
-            refuses::<BTreeMap<String, u8>>(
-                alloc,
-                "[]",
-                mismatch("object", "array"),
-                Span::new(0, 1),
-            ),
-            refuses::<BTreeMap<String, u8>>(
-                alloc,
-                "{\"a\":-1}",
-                out_of_range("u8"),
-                Span::new(5, 2),
-            ),
-        ],
+    assert!(rt; is_written_again(alloc, "{}", "{}"));
+    assert!(rt; is_written_again(alloc, "{\"b\":1,\"a\":2}", "{\"a\":2,\"b\":1}"));
+    assert!(rt; is_written_again(alloc, "{\"a\":1,\"a\":2}", "{\"a\":2}"));
+    assert!(rt; is_written_again(alloc, "{\"a\":1,\"\\u0061\":2}", "{\"a\":2}"));
+    assert!(rt;
+        refuses::<BTreeMap<String, u8>>(alloc, "[]", mismatch("object", "array"), Span::new(0, 1))
+    );
+    assert!(rt;
+        refuses::<BTreeMap<String, u8>>(alloc, "{\"a\":-1}", out_of_range("u8"), Span::new(5, 2))
     );
 }

@@ -1,7 +1,6 @@
 //! Inputs that end within a value, or in which another token stands there: no list, map or struct is read of them, no value that may be null and
 //! no number, and each is refused as the parser refuses it.
 
-use crate::holding::all_hold;
 use facet_format::{DeserializeError, DeserializeErrorKind, Span};
 use facet_json::{Done, Need, from_slice, from_slice_borrowed, read_fields};
 use facet_json_facet::Facet;
@@ -127,51 +126,31 @@ static LITERALS: [Row<'static>; 2] = [
 #[test]
 fn no_list_is_read_of_a_part_of_one(rt: HostRuntime) {
     let alloc = rt.alloc();
-    all_hold(
-        &rt,
-        &[
-            refuses_all::<Vec<u8>>(alloc, &NOTHING),
-            refuses_all::<Vec<u8>>(alloc, &LISTS),
-            refuses_all::<Vec<Vec<u8>>>(alloc, &NESTED),
-        ],
-    );
+    assert!(rt; refuses_all::<Vec<u8>>(alloc, &NOTHING));
+    assert!(rt; refuses_all::<Vec<u8>>(alloc, &LISTS));
+    assert!(rt; refuses_all::<Vec<Vec<u8>>>(alloc, &NESTED));
 }
 
 #[test]
 fn no_map_is_read_of_a_part_of_one(rt: HostRuntime) {
     let alloc = rt.alloc();
-    all_hold(
-        &rt,
-        &[
-            refuses_all::<BTreeMap<String, u8>>(alloc, &NOTHING),
-            refuses_all::<BTreeMap<String, u8>>(alloc, &OBJECTS),
-        ],
-    );
+    assert!(rt; refuses_all::<BTreeMap<String, u8>>(alloc, &NOTHING));
+    assert!(rt; refuses_all::<BTreeMap<String, u8>>(alloc, &OBJECTS));
 }
 
 #[test]
 fn no_struct_is_read_of_a_part_of_one(rt: HostRuntime) {
     let alloc = rt.alloc();
-    all_hold(
-        &rt,
-        &[
-            structs_refuse_all(alloc, &NOTHING),
-            structs_refuse_all(alloc, &OBJECTS),
-            structs_refuse_all(alloc, &UNKNOWN),
-        ],
-    );
+    assert!(rt; structs_refuse_all(alloc, &NOTHING));
+    assert!(rt; structs_refuse_all(alloc, &OBJECTS));
+    assert!(rt; structs_refuse_all(alloc, &UNKNOWN));
 }
 
 #[test]
 fn no_other_value_is_read_of_a_part_of_one(rt: HostRuntime) {
     let alloc = rt.alloc();
-    all_hold(
-        &rt,
-        &[
-            refuses_all::<u8>(alloc, &NOTHING),
-            refuses_all::<Option<u8>>(alloc, &NOTHING),
-            refuses_all::<Option<u8>>(alloc, &LITERALS),
-            refuses_all::<Option<Vec<u8>>>(alloc, &LISTS),
-        ],
-    );
+    assert!(rt; refuses_all::<u8>(alloc, &NOTHING));
+    assert!(rt; refuses_all::<Option<u8>>(alloc, &NOTHING));
+    assert!(rt; refuses_all::<Option<u8>>(alloc, &LITERALS));
+    assert!(rt; refuses_all::<Option<Vec<u8>>>(alloc, &LISTS));
 }

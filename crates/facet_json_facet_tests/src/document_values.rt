@@ -1,7 +1,6 @@
 //! Documents as lists of nodes: what is found in them, and what they are by each call. The wanted values are those of RFC 8259 for these texts.
 
 use crate::checking::{At, place_of};
-use crate::holding::all_hold;
 use facet_format::DeserializeError;
 use facet_json::{Document, Value, ValueKind};
 use std::alloc::Global;
@@ -295,14 +294,9 @@ fn what_is_no_document_is_refused(rt: HostRuntime) {
     let alloc = rt.alloc();
     for &(input, lenient, with_comments, strict) in &REFUSED {
         let bytes = input.as_bytes();
-        all_hold(
-            &rt,
-            &[
-                refused(Document::parse(alloc, bytes)) == lenient,
-                refused(Document::parse_jsonc(alloc, bytes)) == with_comments,
-                refused(Document::parse_strict(alloc, bytes)) == strict,
-            ],
-        );
+        assert!(rt; refused(Document::parse(alloc, bytes)) == lenient);
+        assert!(rt; refused(Document::parse_jsonc(alloc, bytes)) == with_comments);
+        assert!(rt; refused(Document::parse_strict(alloc, bytes)) == strict);
     }
 }
 
@@ -364,11 +358,6 @@ fn are_items(alloc: Global, input: &[u8]) -> bool {
 #[test]
 fn what_is_held_comes_in_order(rt: HostRuntime) {
     let alloc = rt.alloc();
-    all_hold(
-        &rt,
-        &[
-            are_members(alloc, b"{\"a\":1,\"b\":[2,{\"a\":3}],\"\\u0061\":4}"),
-            are_items(alloc, b"[7,[8],9]"),
-        ],
-    );
+    assert!(rt; are_members(alloc, b"{\"a\":1,\"b\":[2,{\"a\":3}],\"\\u0061\":4}"));
+    assert!(rt; are_items(alloc, b"[7,[8],9]"));
 }

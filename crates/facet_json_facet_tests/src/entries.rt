@@ -1,6 +1,5 @@
 //! The entry functions, each once with ample memory, and texts that the input lends.
 
-use crate::holding::all_hold;
 use facet_format::{DeserializeError, DeserializeErrorKind, Span};
 use facet_json::{
     from_slice, from_slice_borrowed, from_slice_borrowed_jsonc, from_slice_jsonc, from_str,
@@ -14,29 +13,19 @@ use std::collections::BTreeMap;
 #[test]
 fn values_are_read_from_bytes_and_texts(rt: HostRuntime) {
     let alloc = rt.alloc();
-    all_hold(
-        &rt,
-        &[
-            from_slice(alloc, b" 7 8") == Ok(7_u8),
-            from_slice_jsonc(alloc, b"/* seven */ 7") == Ok(7_u8),
-            from_str(alloc, "-7") == Ok(-7_i8),
-            from_str_jsonc(alloc, "// below zero\n-7") == Ok(-7_i8),
-        ],
-    );
+    assert!(rt; from_slice(alloc, b" 7 8") == Ok(7_u8));
+    assert!(rt; from_slice_jsonc(alloc, b"/* seven */ 7") == Ok(7_u8));
+    assert!(rt; from_str(alloc, "-7") == Ok(-7_i8));
+    assert!(rt; from_str_jsonc(alloc, "// below zero\n-7") == Ok(-7_i8));
 }
 
 #[test]
 fn texts_are_lent(rt: HostRuntime) {
     let alloc = rt.alloc();
-    all_hold(
-        &rt,
-        &[
-            from_slice_borrowed(alloc, b"\"ab\"") == Ok("ab"),
-            from_slice_borrowed_jsonc(alloc, b"/**/\"ab\"") == Ok("ab"),
-            from_str_borrowed(alloc, "\"\u{4e2d}\"") == Ok("\u{4e2d}"),
-            from_str_borrowed_jsonc(alloc, "\"\" // none") == Ok(""),
-        ],
-    );
+    assert!(rt; from_slice_borrowed(alloc, b"\"ab\"") == Ok("ab"));
+    assert!(rt; from_slice_borrowed_jsonc(alloc, b"/**/\"ab\"") == Ok("ab"));
+    assert!(rt; from_str_borrowed(alloc, "\"\u{4e2d}\"") == Ok("\u{4e2d}"));
+    assert!(rt; from_str_borrowed_jsonc(alloc, "\"\" // none") == Ok(""));
 }
 
 /// Whether the text is refused, since it cannot be lent, at all of its bytes.
@@ -56,14 +45,9 @@ fn is_not_lent(answer: Result<&str, DeserializeError<'_>>, len: usize) -> bool {
 #[test]
 fn texts_with_escapes_are_not_lent(rt: HostRuntime) {
     let alloc = rt.alloc();
-    all_hold(
-        &rt,
-        &[
-            is_not_lent(from_str_borrowed(alloc, "\"a\\u0062\""), 9),
-            is_not_lent(from_str_borrowed(alloc, "18446744073709551616"), 20),
-            is_not_lent(from_str(alloc, "\"ab\""), 4),
-        ],
-    );
+    assert!(rt; is_not_lent(from_str_borrowed(alloc, "\"a\\u0062\""), 9));
+    assert!(rt; is_not_lent(from_str_borrowed(alloc, "18446744073709551616"), 20));
+    assert!(rt; is_not_lent(from_str(alloc, "\"ab\""), 4));
 }
 
 /// Whether the texts of a list are lent.
@@ -85,14 +69,9 @@ fn map_is_lent(alloc: Global) -> bool {
 #[test]
 fn contents_lend_what_they_hold(rt: HostRuntime) {
     let alloc = rt.alloc();
-    all_hold(
-        &rt,
-        &[
-            list_is_lent(alloc),
-            from_str_borrowed::<Option<&str>>(alloc, "\"b\"") == Ok(Some("b")),
-            map_is_lent(alloc),
-        ],
-    );
+    assert!(rt; list_is_lent(alloc));
+    assert!(rt; from_str_borrowed::<Option<&str>>(alloc, "\"b\"") == Ok(Some("b")));
+    assert!(rt; map_is_lent(alloc));
 }
 
 /// A list that was read of an input which is gone.

@@ -1,6 +1,5 @@
 //! Structs: read, written, and read again.
 
-use crate::holding::all_hold;
 use crate::typed::{is_itself, writes};
 use facet_format::{DeserializeErrorKind, Span};
 use facet_json::from_slice;
@@ -26,19 +25,16 @@ fn comes_back(alloc: Global, name: &str, age: u32, text: &str) -> bool {
 #[test]
 fn persons_are_read_and_written(rt: HostRuntime) {
     let alloc = rt.alloc();
-    all_hold(
-        &rt,
-        &[
-            is_person(alloc, "{\"age\":30,\"name\":\"Alice\"}", "Alice", 30),
-            is_person(
-                alloc,
-                "{\"name\":\"A\",\"x\":[{}],\"age\":1,\"age\":2,}",
-                "A",
-                2,
-            ),
-            comes_back(alloc, "Alice", 30, "{\"name\":\"Alice\",\"age\":30}"),
-        ],
+    assert!(rt; is_person(alloc, "{\"age\":30,\"name\":\"Alice\"}", "Alice", 30));
+    assert!(rt;
+        is_person(
+            alloc,
+            "{\"name\":\"A\",\"x\":[{}],\"age\":1,\"age\":2,}",
+            "A",
+            2
+        )
     );
+    assert!(rt; comes_back(alloc, "Alice", 30, "{\"name\":\"Alice\",\"age\":30}"));
 }
 
 /// Whether a person without an age is refused so, at the closing bracket.
@@ -91,24 +87,25 @@ fn is_written(alloc: Global, input: &str, text: &str) -> bool {
 #[test]
 fn optional_fields_may_be_missing(rt: HostRuntime) {
     let alloc = rt.alloc();
-    all_hold(
-        &rt,
-        &[
-            is_retried(
-                alloc,
-                "{\"host\":\"a\",\"tags\":[],\"retry\":{\"times\":3}}",
-                3,
-            ),
-            is_retried(
-                alloc,
-                "{\"retry\":{\"times\":3,\"wait\":null},\"port\":null,\"host\":\"a\",\"tags\":[]}",
-                3,
-            ),
-            is_written(
-                alloc,
-                "{\"host\":\"a\",\"tags\":[\"b\"],\"port\":80}",
-                "{\"host\":\"a\",\"port\":80,\"tags\":[\"b\"],\"retry\":null}",
-            ),
-        ],
+    assert!(rt;
+        is_retried(
+            alloc,
+            "{\"host\":\"a\",\"tags\":[],\"retry\":{\"times\":3}}",
+            3
+        )
+    );
+    assert!(rt;
+        is_retried(
+            alloc,
+            "{\"retry\":{\"times\":3,\"wait\":null},\"port\":null,\"host\":\"a\",\"tags\":[]}",
+            3
+        )
+    );
+    assert!(rt;
+        is_written(
+            alloc,
+            "{\"host\":\"a\",\"tags\":[\"b\"],\"port\":80}",
+            "{\"host\":\"a\",\"port\":80,\"tags\":[\"b\"],\"retry\":null}"
+        )
     );
 }

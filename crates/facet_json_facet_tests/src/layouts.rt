@@ -1,6 +1,5 @@
 //! Texts laid out anew: worked rows, what is refused, and that a text laid out stays as it is.
 
-use crate::holding::all_hold;
 use crate::strict::{is_refused, token, unexpected};
 use facet_format::{DeserializeErrorKind, Span};
 use facet_json::scanner::Mode;
@@ -83,14 +82,9 @@ fn first_wrong(alloc: Global, rows: &[Row]) -> Option<usize> {
 
 #[test]
 fn texts_are_laid_out(rt: HostRuntime) {
-    all_hold(
-        &rt,
-        &[
-            first_wrong(rt.alloc(), &PLAIN) == None,
-            first_wrong(rt.alloc(), &IN_OWN_LINES) == None,
-            first_wrong(rt.alloc(), &AT_LINE_ENDS) == None,
-        ],
-    );
+    assert!(rt; first_wrong(rt.alloc(), &PLAIN) == None);
+    assert!(rt; first_wrong(rt.alloc(), &IN_OWN_LINES) == None);
+    assert!(rt; first_wrong(rt.alloc(), &AT_LINE_ENDS) == None);
 }
 
 /// Whether the text is indented so.
@@ -104,14 +98,9 @@ fn is_indented(alloc: Global, indent: Indent, wanted: &[u8]) -> bool {
 #[test]
 fn the_indent_is_chosen(rt: HostRuntime) {
     let alloc = rt.alloc();
-    all_hold(
-        &rt,
-        &[
-            is_indented(alloc, Indent::Tab, b"[\n\t[\n\t\t1\n\t]\n]\n"),
-            is_indented(alloc, Indent::Spaces(0), b"[\n[\n1\n]\n]\n"),
-            is_indented(alloc, Indent::Spaces(3), b"[\n   [\n      1\n   ]\n]\n"),
-        ],
-    );
+    assert!(rt; is_indented(alloc, Indent::Tab, b"[\n\t[\n\t\t1\n\t]\n]\n"));
+    assert!(rt; is_indented(alloc, Indent::Spaces(0), b"[\n[\n1\n]\n]\n"));
+    assert!(rt; is_indented(alloc, Indent::Spaces(3), b"[\n   [\n      1\n   ]\n]\n"));
 }
 
 /// Whether a text is refused so, where comments may not stand.
@@ -145,17 +134,12 @@ fn behind(got: &'static str) -> DeserializeErrorKind<'static> {
 #[test]
 fn what_is_no_document_alone_is_refused(rt: HostRuntime) {
     let alloc = rt.alloc();
-    all_hold(
-        &rt,
-        &[
-            refuses(alloc, b"[1] 2", behind("U64"), Span::new(4, 1)),
-            refuses(alloc, b"[1],", behind("Comma"), Span::new(3, 1)),
-            refuses(alloc, b"[1] // a", unexpected('/'), Span::new(4, 1)),
-            refuses(alloc, b"[1 x", unexpected('x'), Span::new(3, 1)),
-            refuses_strictly(alloc, b"1 2", behind("U64"), Span::new(2, 1)),
-            refuses_strictly(alloc, b"007", unexpected('?'), Span::new(0, 3)),
-        ],
-    );
+    assert!(rt; refuses(alloc, b"[1] 2", behind("U64"), Span::new(4, 1)));
+    assert!(rt; refuses(alloc, b"[1],", behind("Comma"), Span::new(3, 1)));
+    assert!(rt; refuses(alloc, b"[1] // a", unexpected('/'), Span::new(4, 1)));
+    assert!(rt; refuses(alloc, b"[1 x", unexpected('x'), Span::new(3, 1)));
+    assert!(rt; refuses_strictly(alloc, b"1 2", behind("U64"), Span::new(2, 1)));
+    assert!(rt; refuses_strictly(alloc, b"007", unexpected('?'), Span::new(0, 3)));
 }
 
 // ---- texts that are laid out again

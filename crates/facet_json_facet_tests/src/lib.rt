@@ -35,8 +35,6 @@ mod finding;
 #[cfg(test)]
 mod floats;
 #[cfg(test)]
-mod holding;
-#[cfg(test)]
 mod layouts;
 #[cfg(test)]
 mod lengths;

@@ -1,6 +1,5 @@
 //! Trees that are written down where they are needed, by `tree!`: each is the tree of its text.
 
-use crate::holding::all_hold;
 use facet_json::{Tree, tree, tree_from_slice};
 use std::alloc::{AllocError, Global};
 
@@ -56,20 +55,10 @@ const TREES: &[u8] = br#"{"ids":[1,2,3,4,5],"again":[1,2,3,4,5],"perhaps":[1,nul
 #[test]
 fn trees_are_written_down(rt: HostRuntime) {
     let alloc = rt.alloc();
-    all_hold(
-        &rt,
-        &[
-            is_of_text(alloc, &of_literals(alloc), LITERALS),
-            is_of_text(alloc, &of_names(alloc, "Ada"), NAMES),
-        ],
-    );
+    assert!(rt; is_of_text(alloc, &of_literals(alloc), LITERALS));
+    assert!(rt; is_of_text(alloc, &of_names(alloc, "Ada"), NAMES));
     let copied = ids(alloc).expect(&rt, "memory");
-    all_hold(
-        &rt,
-        &[
-            is_of_text(alloc, &of_trees(alloc, &copied), TREES),
-            is_of_text(alloc, &tree!(in alloc; 7u8), b"7"),
-            is_of_text(alloc, &tree!(in alloc; null), b"null"),
-        ],
-    );
+    assert!(rt; is_of_text(alloc, &of_trees(alloc, &copied), TREES));
+    assert!(rt; is_of_text(alloc, &tree!(in alloc; 7u8), b"7"));
+    assert!(rt; is_of_text(alloc, &tree!(in alloc; null), b"null"));
 }

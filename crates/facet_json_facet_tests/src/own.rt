@@ -6,7 +6,6 @@ ghost use Rattle.facet_format.specs.Views.{refusal_of, span_of};
 ghost use Rattle.facet_json_document.specs.Now.{current_span_of as last_read};
 ghost use Rattle.facet_json_core.specs.Refusing.{IsAbout};
 
-use crate::holding::all_hold;
 use crate::typed::{is_itself, out_of_range, refuses};
 use facet_format::{DeserializeError, DeserializeErrorKind, FormatParser, Span};
 use facet_json_facet::Facet;
@@ -117,13 +116,8 @@ fn last_span(parser: &JsonParser<'_>) -> Span
 #[test]
 fn a_type_of_ones_own_is_read_and_written(rt: HostRuntime) {
     let alloc = rt.alloc();
-    all_hold(
-        &rt,
-        &[
-            is_itself(alloc, "-40", &Named(-40_i16)),
-            refuses::<Named<i16>>(alloc, "40000", out_of_range("i16"), Span::new(0, 5)),
-        ],
-    );
+    assert!(rt; is_itself(alloc, "-40", &Named(-40_i16)));
+    assert!(rt; refuses::<Named<i16>>(alloc, "40000", out_of_range("i16"), Span::new(0, 5)));
 }
 
 /// Whether the input is refused as too much.
@@ -138,13 +132,8 @@ fn is_too_much(alloc: Global, input: &str) -> bool {
 #[test]
 fn a_type_of_ones_own_may_have_bounds(rt: HostRuntime) {
     let alloc = rt.alloc();
-    all_hold(
-        &rt,
-        &[
-            is_itself(alloc, "100", &Percent(100)),
-            is_itself(alloc, "0", &Percent(0)),
-            is_too_much(alloc, " 101"),
-            refuses::<Percent>(alloc, "256", out_of_range("u8"), Span::new(0, 3)),
-        ],
-    );
+    assert!(rt; is_itself(alloc, "100", &Percent(100)));
+    assert!(rt; is_itself(alloc, "0", &Percent(0)));
+    assert!(rt; is_too_much(alloc, " 101"));
+    assert!(rt; refuses::<Percent>(alloc, "256", out_of_range("u8"), Span::new(0, 3)));
 }

@@ -1,6 +1,5 @@
 //! Values with where their documents end, and documents one after another.
 
-use crate::holding::all_hold;
 use facet_format::{DeserializeError, DeserializeErrorKind, Span};
 use facet_json::{Documents, from_slice_prefix, from_str_prefix};
 use std::alloc::Global;
@@ -75,13 +74,8 @@ fn push_four(alloc: Global, input: &str, texts: &mut String) -> Option<bool> {
 fn documents_stand_one_after_another(rt: HostRuntime) {
     let mut texts = String::new(rt.alloc());
     let input = "\"a\"\"\" \"b\\u0063\"\n\"d\"";
-    all_hold(
-        &rt,
-        &[
-            push_four(rt.alloc(), input, &mut texts) == Some(true),
-            texts.as_str() == "abcd",
-        ],
-    );
+    assert!(rt; push_four(rt.alloc(), input, &mut texts) == Some(true));
+    assert!(rt; texts.as_str() == "abcd");
 }
 
 /// Whether both forms refuse the input so.
@@ -98,13 +92,8 @@ fn is_refused(alloc: Global, input: &str, kind: DeserializeErrorKind<'_>, span: 
 fn what_begins_no_value_is_refused(rt: HostRuntime) {
     let alloc = rt.alloc();
     let none = DeserializeErrorKind::UnexpectedEof { expected: "value" };
-    all_hold(
-        &rt,
-        &[
-            is_refused(alloc, "", none, Span::new(0, 0)),
-            is_refused(alloc, " ", none, Span::new(1, 0)),
-        ],
-    );
+    assert!(rt; is_refused(alloc, "", none, Span::new(0, 0)));
+    assert!(rt; is_refused(alloc, " ", none, Span::new(1, 0)));
     let large = DeserializeErrorKind::NumberOutOfRange { target_type: "u8" };
     assert!(rt; is_refused(alloc, "300 1", large, Span::new(0, 3)));
 }

@@ -1,6 +1,5 @@
 //! Raw text.
 
-use crate::holding::all_hold;
 use crate::typed::{is_itself, reads, refuses};
 use facet_format::{DeserializeError, DeserializeErrorKind, FormatParser, Span};
 use facet_json_core::RawJson;
@@ -12,15 +11,10 @@ use std::borrow::CowStr;
 #[test]
 fn a_value_is_kept_as_it_stands(rt: HostRuntime) {
     let alloc = rt.alloc();
-    all_hold(
-        &rt,
-        &[
-            is_itself(alloc, "[1, {\"a\" :2}]", &RawJson::new("[1, {\"a\" :2}]")),
-            is_itself(alloc, "01.50", &RawJson::new("01.50")),
-            reads(alloc, " \"\\u0061\" ", &RawJson::new("\"\\u0061\"")),
-            reads(alloc, "[\"\\ud800\"] true", &RawJson::new("[\"\\ud800\"]")),
-        ],
-    );
+    assert!(rt; is_itself(alloc, "[1, {\"a\" :2}]", &RawJson::new("[1, {\"a\" :2}]")));
+    assert!(rt; is_itself(alloc, "01.50", &RawJson::new("01.50")));
+    assert!(rt; reads(alloc, " \"\\u0061\" ", &RawJson::new("\"\\u0061\"")));
+    assert!(rt; reads(alloc, "[\"\\ud800\"] true", &RawJson::new("[\"\\ud800\"]")));
 }
 
 /// Whether a value is borrowed where it is read.
@@ -43,7 +37,8 @@ fn is_copied(alloc: Global) -> bool {
 
 #[test]
 fn a_value_is_lent_or_copied(rt: HostRuntime) {
-    all_hold(&rt, &[is_lent(rt.alloc()), is_copied(rt.alloc())]);
+    assert!(rt; is_lent(rt.alloc()));
+    assert!(rt; is_copied(rt.alloc()));
 }
 
 #[test]
@@ -78,13 +73,8 @@ fn keys_and_ends_are_no_raw_text(rt: HostRuntime) {
     let at_key = no_value_at("unexpected field key in capture_raw", 1);
     assert!(rt; refused_inside(alloc, "{\"a\":1}") == at_key);
     let at_end = no_value_at("unexpected end event in capture_raw", 2);
-    all_hold(
-        &rt,
-        &[
-            refused_inside(alloc, "[ ]") == at_end,
-            refused_inside(alloc, "{ }") == at_end,
-        ],
-    );
+    assert!(rt; refused_inside(alloc, "[ ]") == at_end);
+    assert!(rt; refused_inside(alloc, "{ }") == at_end);
 }
 
 #[test]

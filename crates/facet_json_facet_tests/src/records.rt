@@ -1,6 +1,5 @@
 //! Structs: they are read from objects by a table of their fields, and written call by call.
 
-use crate::holding::all_hold;
 use facet_format::{DeserializeError, DeserializeErrorKind, FormatSerializer, Span};
 use facet_json::{Done, Need, read_fields};
 use facet_json_core::RawJson;
@@ -220,13 +219,8 @@ fn the_first_missing_field_is_named(rt: HostRuntime) {
 fn points_are_read_and_written(rt: HostRuntime) {
     let alloc = rt.alloc();
     let point = Point { x: 10, y: 20 };
-    all_hold(
-        &rt,
-        &[
-            read_point(alloc, "{\"x\": 10, \"y\": 20}") == Ok(Point { x: 10, y: 20 }),
-            is_text(text_of_point(alloc, &point), "{\"x\":10,\"y\":20}"),
-        ],
-    );
+    assert!(rt; read_point(alloc, "{\"x\": 10, \"y\": 20}") == Ok(Point { x: 10, y: 20 }));
+    assert!(rt; is_text(text_of_point(alloc, &point), "{\"x\":10,\"y\":20}"));
 }
 
 #[test]

@@ -1,6 +1,5 @@
 //! What is no value of a type: each type refuses every other event by its own name and the event's, and the parser goes on after it.
 
-use crate::holding::all_hold;
 use crate::typed::mismatch;
 use facet_format::{DeserializeError, DeserializeErrorKind, FormatParser, Span};
 use facet_json_facet::Facet;
@@ -147,26 +146,23 @@ fn is_called<'de, T: Facet<'de>>(alloc: Global, name: &'de str, taken: &[&'de st
 #[test]
 fn numbers_have_names(rt: HostRuntime) {
     let alloc = rt.alloc();
-    all_hold(
-        &rt,
-        &[
-            is_called::<u8>(alloc, "u8", &["7"]),
-            is_called::<u16>(alloc, "u16", &["7"]),
-            is_called::<u32>(alloc, "u32", &["7"]),
-            is_called::<u64>(alloc, "u64", &["7"]),
-            is_called::<usize>(alloc, "usize", &["7"]),
-            is_called::<i8>(alloc, "i8", &["7"]),
-            is_called::<i16>(alloc, "i16", &["7"]),
-            is_called::<i32>(alloc, "i32", &["7"]),
-            is_called::<i64>(alloc, "i64", &["7"]),
-            is_called::<isize>(alloc, "isize", &["7"]),
-            is_called::<u128>(alloc, "u128", &["7", "18446744073709551616"]),
-            is_called::<i128>(
-                alloc,
-                "i128",
-                &["7", "18446744073709551616", "-9223372036854775809"],
-            ),
-        ],
+    assert!(rt; is_called::<u8>(alloc, "u8", &["7"]));
+    assert!(rt; is_called::<u16>(alloc, "u16", &["7"]));
+    assert!(rt; is_called::<u32>(alloc, "u32", &["7"]));
+    assert!(rt; is_called::<u64>(alloc, "u64", &["7"]));
+    assert!(rt; is_called::<usize>(alloc, "usize", &["7"]));
+    assert!(rt; is_called::<i8>(alloc, "i8", &["7"]));
+    assert!(rt; is_called::<i16>(alloc, "i16", &["7"]));
+    assert!(rt; is_called::<i32>(alloc, "i32", &["7"]));
+    assert!(rt; is_called::<i64>(alloc, "i64", &["7"]));
+    assert!(rt; is_called::<isize>(alloc, "isize", &["7"]));
+    assert!(rt; is_called::<u128>(alloc, "u128", &["7", "18446744073709551616"]));
+    assert!(rt;
+        is_called::<i128>(
+            alloc,
+            "i128",
+            &["7", "18446744073709551616", "-9223372036854775809"]
+        )
     );
 }
 
@@ -174,17 +170,12 @@ fn numbers_have_names(rt: HostRuntime) {
 fn other_values_have_names(rt: HostRuntime) {
     let alloc = rt.alloc();
     let texts = ["\"x\"", "18446744073709551616", "-9223372036854775809"];
-    all_hold(
-        &rt,
-        &[
-            is_called::<bool>(alloc, "bool", &["true"]),
-            is_called::<String>(alloc, "string", &texts),
-            is_called::<&'static str>(alloc, "string", &texts),
-            is_called::<Option<u8>>(alloc, "u8", &["null", "7"]),
-            is_called::<Vec<u8>>(alloc, "array", &["[]"]),
-            is_called::<BTreeMap<String, u8>>(alloc, "object", &["{}"]),
-        ],
-    );
+    assert!(rt; is_called::<bool>(alloc, "bool", &["true"]));
+    assert!(rt; is_called::<String>(alloc, "string", &texts));
+    assert!(rt; is_called::<&'static str>(alloc, "string", &texts));
+    assert!(rt; is_called::<Option<u8>>(alloc, "u8", &["null", "7"]));
+    assert!(rt; is_called::<Vec<u8>>(alloc, "array", &["[]"]));
+    assert!(rt; is_called::<BTreeMap<String, u8>>(alloc, "object", &["{}"]));
     let values = [
         "null",
         "true",
@@ -215,12 +206,7 @@ fn after_refused<'de, T: Facet<'de>>(alloc: Global, parser: &mut JsonParser<'de>
 #[test]
 fn a_refused_value_is_passed(rt: HostRuntime) {
     let alloc = rt.alloc();
-    all_hold(
-        &rt,
-        &[
-            second(alloc, "[1,true]") == Some(true),
-            second(alloc, "[300,7]") == Some(7_u8),
-            second(alloc, "[\"a\\u0062\",\"c\"]") == Some("c"),
-        ],
-    );
+    assert!(rt; second(alloc, "[1,true]") == Some(true));
+    assert!(rt; second(alloc, "[300,7]") == Some(7_u8));
+    assert!(rt; second(alloc, "[\"a\\u0062\",\"c\"]") == Some("c"));
 }

@@ -1,6 +1,5 @@
 //! Trees, by themselves and within other types.
 
-use crate::holding::all_hold;
 use crate::typed::{is_itself, reads};
 use facet_json::from_slice;
 use facet_json_tree::Tree;
@@ -43,15 +42,10 @@ fn are_values(map: &BTreeMap<String, Tree>) -> bool {
 #[test]
 fn any_value_is_a_tree(rt: HostRuntime) {
     let alloc = rt.alloc();
-    all_hold(
-        &rt,
-        &[
-            is_itself(alloc, "null", &Tree::Null),
-            is_itself(alloc, "7", &Tree::U64(7)),
-            reads(alloc, "-0", &Tree::I64(0)),
-            list_is_itself(alloc),
-            values_of_a_map(alloc),
-            is_itself(alloc, "7", &Some(Tree::U64(7))),
-        ],
-    );
+    assert!(rt; is_itself(alloc, "null", &Tree::Null));
+    assert!(rt; is_itself(alloc, "7", &Tree::U64(7)));
+    assert!(rt; reads(alloc, "-0", &Tree::I64(0)));
+    assert!(rt; list_is_itself(alloc));
+    assert!(rt; values_of_a_map(alloc));
+    assert!(rt; is_itself(alloc, "7", &Some(Tree::U64(7))));
 }

@@ -3,6 +3,7 @@ pub mod EventsUp
 pub mod LaidOut
 pub mod NodeTables
 pub mod NodesBuilt
+pub mod NodesHeld
 pub mod NodesRead
 pub mod NodesSeen
 pub mod NodesWithin

@@ -1,19 +1,20 @@
 -- What a value of a document tells of its nodes.
 use Rattle.std.proofs.Common.{◌≡◌, ℕ, zero, suc, ◌+◌, ◌-◌, ◌<◌, ◌≤◌, Bool, true, false, List, [], ◌∷◌, length, drop, get_or, Option, Some, None, refl, sym, ap, ap₂, ◌∙◌, arith, subst}
-use Rattle.std.specs.Prelude.{MatchOption, if◌then◌else◌}
+use Rattle.std.specs.Prelude.{MatchOption, if◌then◌else◌, slice_get}
 use Rattle.std.specs.Option.{unwrap_or, option_map, option_or}
 use Rattle.std.proofs.lemmas.List.{drop-drop, length-map}
 use Rattle.std.proofs.lemmas.Option.{slice_get-map, slice_get-get_or}
 use Rattle.facet_format.specs.Event.{Scalar}
 use Rattle.facet_format.specs.Event as event
 use Rattle.facet_format.specs.Views.{scalar_value_of}
+use Rattle.facet_format.specs.declared.event.ScalarValue.{ScalarValue}
 use Rattle.facet_json_core.specs.Told.{tree_of_scalar}
 use Rattle.facet_json_document.specs.Tree.{Tree, tree, no_trees, pair, no_pairs}
 use Rattle.facet_json_document.specs.Tree as trees
 use Rattle.facet_json_tree.specs.Content.{as_list, as_pairs}
 use Rattle.facet_json_tree.specs.Lookup.{item, item_at, member, last_member}
 use Rattle.facet_json_tree.specs.Same.{same_bytes}
-use Rattle.facet_json_layout.specs.Nodes.{Node, leaf, key, list, object, closing, nothing, inner_len, is_closing_node, is_leaf, is_key, is_list, is_object, items, members, value_beginning, values, value_at, value_in, len, trees_list, pairs_list, node_view, leaf_view, nodes_view, value_view}
+use Rattle.facet_json_layout.specs.Nodes.{Node, leaf, key, list, object, closing, nothing, inner_len, is_closing_node, is_leaf, is_key, is_list, is_object, items, members, value_beginning, values, value_at, value_in, len, trees_list, pairs_list, node_view, leaf_view, nodes_view, held_leaf, nodes_of, value_view}
 use Rattle.facet_json_layout.specs.Inner.Looking.{HoldsOthers, of_nothing, of_list, of_object, IsLeaf, from, NodeStands, IsItem, MemberStands}
 use Rattle.facet_json_layout.specs.declared.document.node.Leaf.{Leaf as RustLeaf}
 use Rattle.facet_json_layout.specs.declared.document.node.Node.{Node as RustNode}
@@ -28,23 +29,23 @@ use Rattle.facet_json_layout.proofs.NodeTables.{stands-there, none-there, value-
 
 -- A node that is read there stands there.
 pub node-stands : (v : Value) (at : ℕ) (n : RustNode) → (at < length v.nodes.now) × ((d : RustNode) → n ≡ get_or v.nodes.now at d) →
-    NodeStands v at (node_view n)
+    NodeStands v at (node_view v.held.now n)
 node-stands v at n h = record {
   within = h.0;
-  here = stands-there (nodes_view v.nodes.now) at (node_view n) (slice_get-map node_view v.nodes.now at ∙ ap (option_map node_view) (slice_get-get_or v.nodes.now at n h.0 ∙ ap Some (sym (h.1 n))));
+  here = stands-there (nodes_of v) at (node_view v.held.now n) (slice_get-map (node_view v.held.now) v.nodes.now at ∙ ap (option_map (node_view v.held.now)) (slice_get-get_or v.nodes.now at n h.0 ∙ ap Some (sym (h.1 n))));
 }
 
 -- Behind all nodes none does.
 pub no-node : (v : Value) (at : ℕ) → length v.nodes.now ≤ at → from v at ≡ []
-no-node v at h = none-there (nodes_view v.nodes.now) at (omega (arith, h, length-map v.nodes.now node_view))
+no-node v at h = none-there (nodes_of v) at (omega (arith, h, length-map v.nodes.now (node_view v.held.now)))
 
 -- ---- the value at the node
 
 pub empty-value : (v : Value) → from v v.index ≡ [] → value_view v ≡ nothing
-empty-value v e = ap value_in (no_value-there (nodes_view v.nodes.now) v.index e)
+empty-value v e = ap value_in (no_value-there (nodes_of v) v.index e)
 
 pub value-stands : (v : Value) (n : Node) → NodeStands v v.index n → value_view v ≡ value_beginning n (from v (suc v.index))
-value-stands v n s = value-there (nodes_view v.nodes.now) v.index n _ _ s.here
+value-stands v n s = value-there (nodes_of v) v.index n _ _ s.here
 
 not-leaf : (n : Node) (later : List (Node × Tree)) → is_leaf n ≡ false → HoldsOthers (value_beginning n later)
 not-leaf (leaf t) later e = cc
@@ -88,15 +89,25 @@ scalar-pairs : (s : Scalar) → as_pairs (unwrap_or (tree_of_scalar s) nothing) 
 scalar-pairs event.null = refl
 scalar-pairs _ = refl
 
-other-list : (n : RustNode) (later : List (Node × Tree)) → is_list (node_view n) ≡ false → as_list (value_beginning (node_view n) later) ≡ None
-other-list (rust.Held held) later e = scalar-list (scalar_value_of held.value)
-other-list (rust.List k) later e = cc
-other-list _ later e = refl
+held-list : (o : Option ScalarValue) → as_list (held_leaf o) ≡ None
+held-list None = refl
+held-list (Some s) = scalar-list (scalar_value_of s)
 
-other-pairs : (n : RustNode) (later : List (Node × Tree)) → is_object (node_view n) ≡ false → as_pairs (value_beginning (node_view n) later) ≡ None
-other-pairs (rust.Held held) later e = scalar-pairs (scalar_value_of held.value)
-other-pairs (rust.Object k) later e = cc
-other-pairs _ later e = refl
+held-pairs : (o : Option ScalarValue) → as_pairs (held_leaf o) ≡ None
+held-pairs None = refl
+held-pairs (Some s) = scalar-pairs (scalar_value_of s)
+
+other-list : (held : List ScalarValue) (n : RustNode) (later : List (Node × Tree)) → is_list (node_view held n) ≡ false →
+    as_list (value_beginning (node_view held n) later) ≡ None
+other-list held (rust.Held at) later e = held-list (slice_get held at)
+other-list held (rust.List k) later e = cc
+other-list held _ later e = refl
+
+other-pairs : (held : List ScalarValue) (n : RustNode) (later : List (Node × Tree)) → is_object (node_view held n) ≡ false →
+    as_pairs (value_beginning (node_view held n) later) ≡ None
+other-pairs held (rust.Held at) later e = held-pairs (slice_get held at)
+other-pairs held (rust.Object k) later e = cc
+other-pairs held _ later e = refl
 
 a-list : (n : Node) (later : List (Node × Tree)) → is_list n ≡ true → value_beginning n later ≡ trees.list (items 0 later)
 a-list (list k) later e = refl
@@ -120,11 +131,11 @@ list-of v n s e = value-stands v n s ∙ a-list n (from v (suc v.index)) e
 pub object-of : (v : Value) (n : Node) → NodeStands v v.index n → is_object n ≡ true → value_view v ≡ trees.pairs (members 0 (from v (suc v.index)))
 object-of v n s e = value-stands v n s ∙ an-object n (from v (suc v.index)) e
 
-pub no-list : (v : Value) (n : RustNode) → NodeStands v v.index (node_view n) → is_list (node_view n) ≡ false → as_list (value_view v) ≡ None
-no-list v n s e = ap as_list (value-stands v (node_view n) s) ∙ other-list n (from v (suc v.index)) e
+pub no-list : (v : Value) (n : RustNode) → NodeStands v v.index (node_view v.held.now n) → is_list (node_view v.held.now n) ≡ false → as_list (value_view v) ≡ None
+no-list v n s e = ap as_list (value-stands v (node_view v.held.now n) s) ∙ other-list v.held.now n (from v (suc v.index)) e
 
-pub no-pairs : (v : Value) (n : RustNode) → NodeStands v v.index (node_view n) → is_object (node_view n) ≡ false → as_pairs (value_view v) ≡ None
-no-pairs v n s e = ap as_pairs (value-stands v (node_view n) s) ∙ other-pairs n (from v (suc v.index)) e
+pub no-pairs : (v : Value) (n : RustNode) → NodeStands v v.index (node_view v.held.now n) → is_object (node_view v.held.now n) ≡ false → as_pairs (value_view v) ≡ None
+no-pairs v n s e = ap as_pairs (value-stands v (node_view v.held.now n) s) ∙ other-pairs v.held.now n (from v (suc v.index)) e
 
 no_list-item : (t : Tree) (i : ℕ) → as_list t ≡ None → item i t ≡ None
 no_list-item (trees.list ts) i e = cc
@@ -140,25 +151,25 @@ neither-len (trees.pairs ps) e f = cc
 neither-len _ e f = refl
 
 -- Only a list has items, only an object members, and no other value a number of them.
-pub no-items : (v : Value) (n : RustNode) (i : ℕ) → NodeStands v v.index (node_view n) → is_list (node_view n) ≡ false → item i (value_view v) ≡ None
+pub no-items : (v : Value) (n : RustNode) (i : ℕ) → NodeStands v v.index (node_view v.held.now n) → is_list (node_view v.held.now n) ≡ false → item i (value_view v) ≡ None
 no-items v n i s e = no_list-item (value_view v) i (no-list v n s e)
 
-pub no-members : (v : Value) (n : RustNode) (name : List ℕ) → NodeStands v v.index (node_view n) → is_object (node_view n) ≡ false →
+pub no-members : (v : Value) (n : RustNode) (name : List ℕ) → NodeStands v v.index (node_view v.held.now n) → is_object (node_view v.held.now n) ≡ false →
     member name (value_view v) ≡ None
 no-members v n name s e = no_object-member (value_view v) name (no-pairs v n s e)
 
-pub no-len : (v : Value) (n : RustNode) → NodeStands v v.index (node_view n) → is_list (node_view n) ≡ false → is_object (node_view n) ≡ false →
+pub no-len : (v : Value) (n : RustNode) → NodeStands v v.index (node_view v.held.now n) → is_list (node_view v.held.now n) ≡ false → is_object (node_view v.held.now n) ≡ false →
     len (value_view v) ≡ None
 no-len v n s e f = neither-len (value_view v) (no-list v n s e) (no-pairs v n s f)
 
 -- ---- items
 
 -- Where no end stands, an item begins.
-pub item-begins : (v w : Value) (at : ℕ) (n : Node) → NodeStands v at n → is_closing_node n ≡ false → w.nodes.now ≡ v.nodes.now → w.index ≡ at →
+pub item-begins : (v w : Value) (at : ℕ) (n : Node) → NodeStands v at n → is_closing_node n ≡ false → nodes_of w ≡ nodes_of v → w.index ≡ at →
     Some (value_view w) ≡ item_at 0 (items 0 (from v at))
 item-begins v w at n s c nodes index =
-    let view : value_view w ≡ value_at (nodes_view v.nodes.now) at = ap₂ (λ l i. value_at (nodes_view l) i) nodes index in
-    ap Some (view ∙ value-there (nodes_view v.nodes.now) at n _ _ s.here)
+    let view : value_view w ≡ value_at (nodes_of v) at = ap₂ value_at nodes index in
+    ap Some (view ∙ value-there (nodes_of v) at n _ _ s.here)
     ∙ sym (ap (λ l. item_at 0 (items 0 l)) s.here ∙ ap (item_at 0) (items-first n _ (from v (suc at)) c))
 
 -- The items behind it begin behind its nodes.
@@ -166,7 +177,7 @@ pub item-stands : (v : Value) (at to : ℕ) (n : Node) → NodeStands v at n →
     at < to → to ≤ length v.nodes.now → IsItem v at to
 item-stands v at to n s c e further within = record {
   are = ap (items 0) s.here ∙ items-first n (value_beginning n (from v (suc at))) (from v (suc at)) c
-      ∙ ap₂ (λ t l. tree t (items 0 l)) (sym (value-there (nodes_view v.nodes.now) at n _ _ s.here)) (sym e);
+      ∙ ap₂ (λ t l. tree t (items 0 l)) (sym (value-there (nodes_of v) at n _ _ s.here)) (sym e);
   further = further;
   within = within;
 }
@@ -188,12 +199,12 @@ no-item-left v at left found e none = e ∙ ap (item_at left) none
 pub past-there : (v : Value) (at k j : ℕ) → j ≡ k → from v (at + 1 + j) ≡ drop k (from v (suc at))
 past-there v at k j e =
     let there : at + 1 + j ≡ suc at + k = omega (arith, e) in
-    ap (from v) there ∙ sym (drop-drop k (suc at) (values (nodes_view v.nodes.now)))
+    ap (from v) there ∙ sym (drop-drop k (suc at) (values (nodes_of v)))
 
 pub past-end : (v : Value) (at k : ℕ) → length v.nodes.now ≤ suc at + k → from v (length v.nodes.now) ≡ drop k (from v (suc at))
 past-end v at k h =
     no-node v (length v.nodes.now) (omega arith)
-    ∙ sym (drop-drop k (suc at) (values (nodes_view v.nodes.now)) ∙ no-node v (suc at + k) h)
+    ∙ sym (drop-drop k (suc at) (values (nodes_of v)) ∙ no-node v (suc at + k) h)
 
 -- ---- members
 
@@ -206,7 +217,7 @@ member-stands v at behind to m n name first is b second left further within =
     record {
       are = ap (members 0) first.here ∙ ap (λ k. members 0 ((k, value_beginning k (from v (suc at))) ∷ from v (suc at))) is
           ∙ ap (λ l. members 0 ((key name, nothing) ∷ l)) there ∙ members-first name nothing n _ rest
-          ∙ ap₂ (pair name) (sym (value-there (nodes_view v.nodes.now) (suc at) n _ rest there)) (ap (members 0) (sym left));
+          ∙ ap₂ (pair name) (sym (value-there (nodes_of v) (suc at) n _ rest there)) (ap (members 0) (sym left));
       further = omega (arith, further, b);
       within = within;
     }
@@ -227,11 +238,11 @@ named false behind t before e = cc
 
 pub member-found : (v w : Value) (at behind to : ℕ) (name wanted : List ℕ) (last before : Option Tree) →
     last ≡ option_or (last_member wanted (members 0 (from v at))) before → MemberStands v at name to → true ≡ same_bytes name wanted →
-    w.nodes.now ≡ v.nodes.now → w.index ≡ behind → behind ≡ suc at →
+    nodes_of w ≡ nodes_of v → w.index ≡ behind → behind ≡ suc at →
     last ≡ option_or (last_member wanted (members 0 (from v to))) (Some (value_view w))
 member-found v w at behind to name wanted last before e m same nodes index b =
-    let t = value_at (nodes_view v.nodes.now) (suc at) in
-    let view : value_view w ≡ t = ap₂ (λ l i. value_at (nodes_view l) i) nodes (index ∙ b) in
+    let t = value_at (nodes_of v) (suc at) in
+    let view : value_view w ≡ t = ap₂ value_at nodes (index ∙ b) in
     e ∙ ap (λ ms. option_or (last_member wanted ms) before) m.are
     ∙ named (same_bytes name wanted) (last_member wanted (members 0 (from v to))) t before same
     ∙ ap (λ x. option_or (last_member wanted (members 0 (from v to))) (Some x)) (sym view)
@@ -242,19 +253,19 @@ member-found v w at behind to name wanted last before e m same nodes index b =
 pub item-left : (v : Value) (at to : ℕ) → IsItem v at to → v.index ≡ at →
     trees_list (items 0 (from v at)) ≡ value_view v ∷ trees_list (items 0 (from v to))
 item-left v at to i index =
-    ap trees_list i.are ∙ ap (λ k. value_at (nodes_view v.nodes.now) k ∷ trees_list (items 0 (from v to))) (sym index)
+    ap trees_list i.are ∙ ap (λ k. value_at (nodes_of v) k ∷ trees_list (items 0 (from v to))) (sym index)
 
 -- What is left of the members.
-pub member-left : (v w : Value) (at to behind : ℕ) (name : List ℕ) → MemberStands v at name to → w.nodes.now ≡ v.nodes.now → w.index ≡ behind → behind ≡ suc at →
+pub member-left : (v w : Value) (at to behind : ℕ) (name : List ℕ) → MemberStands v at name to → nodes_of w ≡ nodes_of v → w.index ≡ behind → behind ≡ suc at →
     pairs_list (members 0 (from v at)) ≡ (name, value_view w) ∷ pairs_list (members 0 (from v to))
 member-left v w at to behind name m nodes index b =
     ap pairs_list m.are
-    ∙ ap (λ t. (name, t) ∷ pairs_list (members 0 (from v to))) (sym (ap₂ (λ l i. value_at (nodes_view l) i) nodes (index ∙ b)))
+    ∙ ap (λ t. (name, t) ∷ pairs_list (members 0 (from v to))) (sym (ap₂ value_at nodes (index ∙ b)))
 
-pub items-from : (v : Value) (w : Items) (at : ℕ) → w.nodes.now ≡ v.nodes.now → w.at ≡ at → at ≡ suc v.index →
+pub items-from : (v : Value) (w : Items) (at : ℕ) → nodes_view w.held.now w.nodes.now ≡ nodes_of v → w.at ≡ at → at ≡ suc v.index →
     held_items w ≡ trees_list (items 0 (from v (suc v.index)))
-items-from v w at nodes is b = ap₂ (λ l k. trees_list (items 0 (drop k (values (nodes_view l))))) nodes (is ∙ b)
+items-from v w at nodes is b = ap₂ (λ l k. trees_list (items 0 (drop k (values l)))) nodes (is ∙ b)
 
-pub members-from : (v : Value) (w : Members) (at : ℕ) → w.nodes.now ≡ v.nodes.now → w.at ≡ at → at ≡ suc v.index →
+pub members-from : (v : Value) (w : Members) (at : ℕ) → nodes_view w.held.now w.nodes.now ≡ nodes_of v → w.at ≡ at → at ≡ suc v.index →
     held_members w ≡ pairs_list (members 0 (from v (suc v.index)))
-members-from v w at nodes is b = ap₂ (λ l k. pairs_list (members 0 (drop k (values (nodes_view l))))) nodes (is ∙ b)
+members-from v w at nodes is b = ap₂ (λ l k. pairs_list (members 0 (drop k (values l)))) nodes (is ∙ b)

@@ -9,7 +9,7 @@ use Rattle.facet_json_serializer.specs.Views.{call_answer_of, write_refusal_of}
 use Rattle.facet_json_serializer.specs.declared.error.JsonSerializeError.{JsonSerializeError}
 use Rattle.facet_json_tree.specs.Write.{HasWritten}
 use Rattle.facet_json_tree.proofs.CallsLeft.{AreLeft, call-made, first-made, tree-made, left-refused, left-spent, last-answered, last-refused, last-spent}
-use Rattle.facet_json_layout.specs.Nodes.{items, members, value_at, nodes_view, value_view}
+use Rattle.facet_json_layout.specs.Nodes.{items, members, value_at, nodes_of, value_view}
 use Rattle.facet_json_layout.specs.Inner.Looking.{from, IsItem, MemberStands}
 use Rattle.facet_json_layout.specs.declared.document.value.Value.{Value}
 
@@ -34,21 +34,21 @@ members-begun v old new step =
     subst (λ at. MembersLeft v old at new) behind (first-made old new (pairs (members 0 (from v (suc v.index)))) begin_struct _ refl step)
 
 pub item-written : (v w : Value) (old now new : Option Writing) (at to : ℕ) → ItemsLeft v old at now → IsItem v at to → HasWritten now (value_view w) new →
-    w.nodes.now ≡ v.nodes.now → w.index ≡ at → ItemsLeft v old to new
+    nodes_of w ≡ nodes_of v → w.index ≡ at → ItemsLeft v old to new
 unfolding item_calls
 item-written v w old now new at to left item wrote nodes index =
-    let x = value_at (nodes_view v.nodes.now) at in
-    let seen : value_view w ≡ x = ap₂ (λ l i. value_at (nodes_view l) i) nodes index in
+    let x = value_at (nodes_of v) at in
+    let seen : value_view w ≡ x = ap₂ value_at nodes index in
     let calls = ap (λ ts. item_calls ts ++ end_seq ∷ []) item.are ∙ append_assoc (tree_calls x) (item_calls (items 0 (from v to))) (end_seq ∷ []) in
     tree-made old now new _ x _ (subst (λ s. AreLeft old (list (items 0 (from v (suc v.index)))) s now) calls left) (subst (λ u. HasWritten now u new) seen wrote)
 
 -- the calls of a member that stands there, and those of the others
 member-left : (v : Value) (old now : Option Writing) (at to : ℕ) (name : List ℕ) → MembersLeft v old at now → MemberStands v at name to →
     AreLeft old (pairs (members 0 (from v (suc v.index))))
-    (field_key name ∷ (tree_calls (value_at (nodes_view v.nodes.now) (suc at)) ++ (member_calls (members 0 (from v to)) ++ end_struct ∷ []))) now
+    (field_key name ∷ (tree_calls (value_at (nodes_of v) (suc at)) ++ (member_calls (members 0 (from v to)) ++ end_struct ∷ []))) now
 unfolding member_calls
 member-left v old now at to name left member =
-    let x = value_at (nodes_view v.nodes.now) (suc at) in
+    let x = value_at (nodes_of v) (suc at) in
     let after = append_assoc (tree_calls x) (member_calls (members 0 (from v to))) (end_struct ∷ []) in
     let calls = ap (λ ps. member_calls ps ++ end_struct ∷ []) member.are ∙ ap (λ s. field_key name ∷ s) after in
     subst (λ s. AreLeft old (pairs (members 0 (from v (suc v.index)))) s now) calls left
@@ -62,11 +62,11 @@ pub key-spent : (v : Value) (old now new : Option Writing) (at to : ℕ) (name :
 key-spent v old now new at to name why left member step = left-spent old now new _ _ _ why (member-left v old now at to name left member) step
 
 pub member-written : (v w : Value) (old now keyed new : Option Writing) (at behind to : ℕ) (name : List ℕ) → MembersLeft v old at now → MemberStands v at name to →
-    Appends now (field_key name) (Ok tt) keyed → HasWritten keyed (value_view w) new → w.nodes.now ≡ v.nodes.now → w.index ≡ behind → behind ≡ suc at →
+    Appends now (field_key name) (Ok tt) keyed → HasWritten keyed (value_view w) new → nodes_of w ≡ nodes_of v → w.index ≡ behind → behind ≡ suc at →
     MembersLeft v old to new
 member-written v w old now keyed new at behind to name left member step wrote nodes index b =
-    let x = value_at (nodes_view v.nodes.now) (suc at) in
-    let seen : value_view w ≡ x = ap₂ (λ l i. value_at (nodes_view l) i) nodes (index ∙ b) in
+    let x = value_at (nodes_of v) (suc at) in
+    let seen : value_view w ≡ x = ap₂ value_at nodes (index ∙ b) in
     let made = call-made old now keyed _ _ _ (member-left v old now at to name left member) step in
     tree-made old keyed new _ x _ made (subst (λ u. HasWritten keyed u new) seen wrote)
 

@@ -7,7 +7,7 @@ use Rattle.facet_json_document.specs.Tree as trees
 use Rattle.facet_json_tree.specs.Content.{as_list, as_pairs}
 use Rattle.facet_json_tree.specs.Lookup.{item_at}
 use Rattle.facet_json_tree.specs.Pointer.{child}
-use Rattle.facet_json_layout.specs.Nodes.{Node, leaf, key, list, object, closing, is_list, is_object, items, values, trees_len, node_view, nodes_view, value_view}
+use Rattle.facet_json_layout.specs.Nodes.{Node, leaf, key, list, object, closing, is_list, is_object, items, values, trees_len, node_view, nodes_of, value_view}
 use Rattle.facet_json_layout.specs.Inner.Looking.{from, NodeStands}
 use Rattle.facet_json_layout.specs.declared.document.node.Node.{Node as RustNode}
 use Rattle.facet_json_layout.specs.declared.document.value.Value.{Value}
@@ -19,8 +19,8 @@ neither-child name (trees.pairs ps) e f = cc
 neither-child name _ e f = refl
 
 -- Nothing has a name in a value that is neither a list nor an object.
-pub no-child : (v : Value) (n : RustNode) (name : List ℕ) → NodeStands v v.index (node_view n) → is_object (node_view n) ≡ false →
-    is_list (node_view n) ≡ false → child name (value_view v) ≡ None
+pub no-child : (v : Value) (n : RustNode) (name : List ℕ) → NodeStands v v.index (node_view v.held.now n) → is_object (node_view v.held.now n) ≡ false →
+    is_list (node_view v.held.now n) ≡ false → child name (value_view v) ≡ None
 no-child v n name s e f = neither-child name (value_view v) (no-list v n s f) (no-pairs v n s e)
 
 -- ---- no more items than nodes
@@ -42,7 +42,7 @@ values-length (n ∷ nodes) = ap suc (values-length nodes)
 
 from-few : (v : Value) (at : ℕ) → trees_len (items 0 (from v at)) ≤ length v.nodes.now
 from-few v at =
-    omega (arith, items-few 0 (from v at), length-drop at (values (nodes_view v.nodes.now)), values-length (nodes_view v.nodes.now), length-map v.nodes.now node_view)
+    omega (arith, items-few 0 (from v at), length-drop at (values (nodes_of v)), values-length (nodes_of v), length-map v.nodes.now (node_view v.held.now))
 
 past-items : (ts : Trees) (i : ℕ) → trees_len ts ≤ i → item_at i ts ≡ None
 past-items no_trees i h = refl

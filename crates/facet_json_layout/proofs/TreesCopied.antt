@@ -4,7 +4,7 @@ use Rattle.std.proofs.lemmas.List.{append-nil}
 use Rattle.facet_json_document.specs.Tree.{Tree, Trees, no_trees, tree, Pairs, no_pairs, pair}
 use Rattle.facet_json_tree.specs.Views.{tree_view, trees_view, pairs_view}
 use Rattle.facet_json_tree.specs.declared.tree.Tree.{Tree as RustTree}
-use Rattle.facet_json_layout.specs.Nodes.{items, members, trees_list, pairs_list, value_at, nodes_view, value_view}
+use Rattle.facet_json_layout.specs.Nodes.{items, members, trees_list, pairs_list, value_at, nodes_of, value_view}
 use Rattle.facet_json_layout.specs.Inner.Looking.{from, IsItem, MemberStands}
 use Rattle.facet_json_layout.specs.declared.document.value.Value.{Value}
 
@@ -24,17 +24,17 @@ one-more f [] x y rest e = ap (λ z. z ∷ rest) (sym e)
 one-more f (z ∷ xs) x y rest e = ap (λ l. f z ∷ l) (one-more f xs x y rest e)
 
 pub item-copied : (v w : Value) (copies : List RustTree) (at to : ℕ) (copy : RustTree) → ItemsCopied v copies at → IsItem v at to →
-    tree_view copy ≡ value_view w → w.nodes.now ≡ v.nodes.now → w.index ≡ at → ItemsCopied v (copies ++ copy ∷ []) to
+    tree_view copy ≡ value_view w → nodes_of w ≡ nodes_of v → w.index ≡ at → ItemsCopied v (copies ++ copy ∷ []) to
 item-copied v w copies at to copy so item same nodes index =
-    let seen : tree_view copy ≡ value_at (nodes_view v.nodes.now) at = same ∙ ap₂ (λ l i. value_at (nodes_view l) i) nodes index in
+    let seen : tree_view copy ≡ value_at (nodes_of v) at = same ∙ ap₂ value_at nodes index in
     so ∙ ap (λ ts. map tree_view copies ++ trees_list ts) item.are ∙ one-more tree_view copies copy _ _ seen
 
 pub member-copied : (v w : Value) (copies : List (String Global × RustTree)) (at behind to : ℕ) (name : List ℕ) (text : String Global)
     (copy : RustTree) → MembersCopied v copies at → MemberStands v at name to → string_bytes text ≡ name → tree_view copy ≡ value_view w →
-    w.nodes.now ≡ v.nodes.now → w.index ≡ behind → behind ≡ suc at → MembersCopied v (copies ++ (text, copy) ∷ []) to
+    nodes_of w ≡ nodes_of v → w.index ≡ behind → behind ≡ suc at → MembersCopied v (copies ++ (text, copy) ∷ []) to
 member-copied v w copies at behind to name text copy so member named same nodes index b =
-    let seen : tree_view copy ≡ value_at (nodes_view v.nodes.now) (suc at) =
-    same ∙ ap₂ (λ l i. value_at (nodes_view l) i) nodes (index ∙ b) in
+    let seen : tree_view copy ≡ value_at (nodes_of v) (suc at) =
+    same ∙ ap₂ value_at nodes (index ∙ b) in
     so ∙ ap (λ ps. map member_seen copies ++ pairs_list ps) member.are
     ∙ one-more member_seen copies (text, copy) _ _ (ap₂ (λ n t. (n, t)) named seen)
 

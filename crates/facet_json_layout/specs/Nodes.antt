@@ -3,8 +3,9 @@
 use Rattle.std.specs.Prelude.{ℕ, zero, suc, Bool, true, false, List, [], ◌∷◌, Option, Some, None, map, drop, slice_get}
 use Rattle.std.specs.Borrow.{Bor}
 use Rattle.std.specs.Option.{unwrap_or}
-use Rattle.facet_format.specs.Event.{bytes_of}
-use Rattle.facet_format.specs.HeldText.{text_of}
+use Rattle.facet_format.specs.Event.{Scalar, bytes_of}
+use Rattle.facet_format.specs.Event as event
+use Rattle.facet_format.specs.declared.event.ScalarValue.{ScalarValue}
 use Rattle.facet_format.specs.Views.{scalar_value_of}
 use Rattle.facet_json_core.specs.Told.{tree_of_scalar}
 use Rattle.facet_json_document.specs.Tree.{Tree, Trees, no_trees, tree, Pairs, no_pairs, pair}
@@ -140,18 +141,33 @@ len _ = None
 
 -- ---- what the types of the code stand for
 
-abbrev pub node_view : RustNode → Node
-node_view rust.Null = leaf trees.null
-node_view (rust.Bool b) = leaf (trees.bool b)
-node_view (rust.I64 n) = leaf (trees.i64 n)
-node_view (rust.U64 n) = leaf (trees.u64 n)
-node_view (rust.Text t) = leaf (trees.text t.now)
-node_view (rust.Held held) = leaf (unwrap_or (tree_of_scalar (scalar_value_of held.value)) nothing)
-node_view (rust.Key name) = key name.now
-node_view (rust.HeldKey held) = key (bytes_of (text_of held.value))
-node_view (rust.List n) = list n
-node_view (rust.Object n) = object n
-node_view rust.End = closing
+-- a value that no node holds itself
+abbrev pub held_leaf : Option ScalarValue → Tree
+held_leaf None = nothing
+held_leaf (Some s) = unwrap_or (tree_of_scalar (scalar_value_of s)) nothing
+
+abbrev pub text_held : Scalar → List ℕ
+text_held (event.text t) = bytes_of t
+text_held _ = []
+
+-- a name that no node holds itself
+abbrev pub held_name : Option ScalarValue → List ℕ
+held_name None = []
+held_name (Some s) = text_held (scalar_value_of s)
+
+-- a node, beside what no node holds itself
+abbrev pub node_view : List ScalarValue → RustNode → Node
+node_view held rust.Null = leaf trees.null
+node_view held (rust.Bool b) = leaf (trees.bool b)
+node_view held (rust.I64 n) = leaf (trees.i64 n)
+node_view held (rust.U64 n) = leaf (trees.u64 n)
+node_view held (rust.Text t) = leaf (trees.text t.now)
+node_view held (rust.Held at) = leaf (held_leaf (slice_get held at))
+node_view held (rust.Key name) = key name.now
+node_view held (rust.HeldKey at) = key (held_name (slice_get held at))
+node_view held (rust.List n) = list n
+node_view held (rust.Object n) = object n
+node_view held rust.End = closing
 
 -- a value that holds no others
 abbrev pub leaf_view : RustLeaf → Tree
@@ -163,21 +179,25 @@ leaf_view (leaves.Decimal d) = trees.decimal (bytes_of d.now)
 leaf_view (leaves.Text t) = trees.text t.now
 leaf_view leaves.Other = nothing
 
-abbrev pub nodes_view : List RustNode → List Node
-nodes_view nodes = map node_view nodes
+abbrev pub nodes_view : List ScalarValue → List RustNode → List Node
+nodes_view held nodes = map (node_view held) nodes
+
+-- the nodes of a value's document
+abbrev pub nodes_of : Value → List Node
+nodes_of v = nodes_view v.held.now v.nodes.now
 
 abbrev pub value_view : Value → Tree
-value_view v = value_at (nodes_view v.nodes.now) v.index
+value_view v = value_at (nodes_of v) v.index
 
 -- those that are still to come
 abbrev pub items_left : Items → List Tree
-items_left i = trees_list (items 0 (drop i.at (values (nodes_view i.nodes.now))))
+items_left i = trees_list (items 0 (drop i.at (values (nodes_view i.held.now i.nodes.now))))
 
 abbrev pub members_left : Members → List (List ℕ × Tree)
-members_left m = pairs_list (members 0 (drop m.at (values (nodes_view m.nodes.now))))
+members_left m = pairs_list (members 0 (drop m.at (values (nodes_view m.held.now m.nodes.now))))
 
 abbrev pub member_view : Bor (List ℕ) × Value → List ℕ × Tree
 member_view m = (m.0.now, value_view m.1)
 
 abbrev pub document_view : Document → Tree
-document_view d = value_at (nodes_view d.nodes.items) 0
+document_view d = value_at (nodes_view d.held.items d.nodes.items) 0

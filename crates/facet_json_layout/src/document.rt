@@ -20,12 +20,13 @@ ghost use Rattle.facet_json_document.specs.UnreadLaws.{RefusalWithin};
 ghost use Rattle.facet_json_core.specs.Reading.{LacksMemory};
 
 mod build;
+mod built;
 mod held;
 mod node;
 mod value;
 
 use build::build;
-use facet_format::DeserializeError;
+use facet_format::{DeserializeError, ScalarValue};
 use facet_json_parser::JsonParser;
 use facet_json_token::Mode;
 pub use held::{Items, Members};
@@ -39,6 +40,8 @@ pub use value::Value;
 pub struct Document<'i> {
     /// A node for each value, key and container's end, in the order in which they stand.
     nodes: Vec<Node<'i>>,
+    /// What no node holds itself: decimals, and texts and names with escapes.
+    held: Vec<ScalarValue<'i>>,
 }
 
 impl<'i> Document<'i> {
@@ -60,9 +63,8 @@ impl<'i> Document<'i> {
             → MatchResult result (λ d. document_view d ≡ value) (λ e. LacksMemory (refusal_of e)) }
         ensures within { IfErr result (λ e. RefusalWithin input.now (refusal_of e)) }
     {
-        Ok(Document {
-            nodes: lenient_nodes(alloc, input, Mode::Plain, None)?,
-        })
+        let (nodes, held) = lenient_nodes(alloc, input, Mode::Plain, None)?;
+        Ok(Document { nodes, held })
     }
 
     /// Reads as `parse`, where comments may stand wherever white space may.
@@ -84,9 +86,8 @@ impl<'i> Document<'i> {
             → MatchResult result (λ d. document_view d ≡ value) (λ e. LacksMemory (refusal_of e)) }
         ensures within { IfErr result (λ e. RefusalWithin input.now (refusal_of e)) }
     {
-        Ok(Document {
-            nodes: lenient_nodes(alloc, input, Mode::Jsonc, None)?,
-        })
+        let (nodes, held) = lenient_nodes(alloc, input, Mode::Jsonc, None)?;
+        Ok(Document { nodes, held })
     }
 
     /// Reads one text of RFC 8259, with white space alone around it, as `tree_from_slice_strict` does.
@@ -109,9 +110,8 @@ impl<'i> Document<'i> {
             → MatchResult result (λ d. document_view d ≡ value) (λ e. LacksMemory (refusal_of e)) }
         ensures within { IfErr result (λ e. RefusalWithin input.now (refusal_of e)) }
     {
-        Ok(Document {
-            nodes: strict_nodes(alloc, input, None)?,
-        })
+        let (nodes, held) = strict_nodes(alloc, input, None)?;
+        Ok(Document { nodes, held })
     }
 
     /// Reads as `parse`, where the document nests no deeper than `depth`, as `tree_from_slice_within` does: an array or object counts one, and one
@@ -140,9 +140,8 @@ impl<'i> Document<'i> {
         ensures refused { IfErr result (λ e. LacksMemory (refusal_of e) ⊎ RefusesWithin input.now plain depth (refusal_of e)) }
         ensures within { IfErr result (λ e. RefusalWithin input.now (refusal_of e)) }
     {
-        Ok(Document {
-            nodes: lenient_nodes(alloc, input, Mode::Plain, Some(depth))?,
-        })
+        let (nodes, held) = lenient_nodes(alloc, input, Mode::Plain, Some(depth))?;
+        Ok(Document { nodes, held })
     }
 
     /// Reads as `parse_jsonc`, where the document nests no deeper than `depth`, which counts as in `parse_within`. A bracket within a comment counts
@@ -168,9 +167,8 @@ impl<'i> Document<'i> {
         ensures only { (root : Root) (value : Tree) → IsDocument input.now jsonc root value → depth_of root ≤ depth
             → MatchResult result (λ d. document_view d ≡ value) (λ e. LacksMemory (refusal_of e)) }
     {
-        Ok(Document {
-            nodes: lenient_nodes(alloc, input, Mode::Jsonc, Some(depth))?,
-        })
+        let (nodes, held) = lenient_nodes(alloc, input, Mode::Jsonc, Some(depth))?;
+        Ok(Document { nodes, held })
     }
 
     /// Reads as `parse_strict`, where the text nests no deeper than `depth`, which counts as in `parse_within`.
@@ -195,9 +193,8 @@ impl<'i> Document<'i> {
         ensures refused { IfErr result (λ e. LacksMemory (refusal_of e) ⊎ GetsStuckWithin (Some depth) (fresh_in input.now (strict plain)) (refusal_of e)) }
         ensures within { IfErr result (λ e. RefusalWithin input.now (refusal_of e)) }
     {
-        Ok(Document {
-            nodes: strict_nodes(alloc, input, Some(depth))?,
-        })
+        let (nodes, held) = strict_nodes(alloc, input, Some(depth))?;
+        Ok(Document { nodes, held })
     }
 
     /// The document's value.
@@ -208,7 +205,7 @@ impl<'i> Document<'i> {
     pub fn root(&self) -> Value<'_, 'i>
         ensures { value_view result ≡ document_view self.now }
     {
-        Value::at(self.nodes.as_slice(), 0)
+        Value::at(self.nodes.as_slice(), self.held.as_slice(), 0)
     }
 }
 
@@ -218,8 +215,8 @@ fn lenient_nodes<'i, 't>(
     input: &'i [u8],
     mode: Mode,
     depth: Option<usize>,
-) -> Result<Vec<Node<'i>>, DeserializeError<'t>>
-    ensures nodes { IfOk result (λ v. AddsAll (fresh input.now (mode_of mode)) (nodes_view v.items)) }
+) -> Result<(Vec<Node<'i>>, Vec<ScalarValue<'i>>), DeserializeError<'t>>
+    ensures nodes { IfOk result (λ v. AddsAll (fresh input.now (mode_of mode)) (nodes_view v.1.items v.0.items)) }
     ensures shallow { OnOk result (beyond (future_of (fresh input.now (mode_of mode))) depth ≡ None) }
     ensures refused { IfErr result (λ e. LacksMemory (refusal_of e) ⊎ GetsStuckWithin depth (fresh input.now (mode_of mode)) (refusal_of e)) }
     ensures within { IfErr result (λ e. RefusalWithin input.now (refusal_of e)) }
@@ -235,8 +232,8 @@ fn strict_nodes<'i, 't>(
     alloc: Global,
     input: &'i [u8],
     depth: Option<usize>,
-) -> Result<Vec<Node<'i>>, DeserializeError<'t>>
-    ensures nodes { IfOk result (λ v. AddsAll (fresh_in input.now (strict plain)) (nodes_view v.items)) }
+) -> Result<(Vec<Node<'i>>, Vec<ScalarValue<'i>>), DeserializeError<'t>>
+    ensures nodes { IfOk result (λ v. AddsAll (fresh_in input.now (strict plain)) (nodes_view v.1.items v.0.items)) }
     ensures shallow { OnOk result (beyond (future_of (fresh_in input.now (strict plain))) depth ≡ None) }
     ensures refused { IfErr result (λ e. LacksMemory (refusal_of e) ⊎ GetsStuckWithin depth (fresh_in input.now (strict plain)) (refusal_of e)) }
     ensures within { IfErr result (λ e. RefusalWithin input.now (refusal_of e)) }

@@ -13,7 +13,7 @@ use Rattle.facet_json_tree.specs.Depth.{beyond_event, too_deep_at, beyond}
 use Rattle.facet_json_layout.specs.Nodes.{Node, leaf, key, list, object, closing, nothing, nodes_view}
 use Rattle.facet_format.specs.declared.event.ContainerKind.{ContainerKind as RustContainerKind}
 use Rattle.facet_format.specs.declared.event.ContainerKind.TheVariants as rust
-use Rattle.facet_json_layout.specs.declared.document.build.Built.{Built}
+use Rattle.facet_json_layout.specs.declared.document.built.Built.{Built}
 
 -- the nodes so far, and the indices of the containers that are not closed yet, the innermost first
 pub record NodesSoFar : Type 0 where
@@ -62,7 +62,7 @@ container rust.Array = list
 container rust.Object = object
 
 abbrev pub built_view : Built → NodesSoFar
-built_view b = record { nodes = nodes_view b.nodes.items; unclosed = reverse b.unclosed.items }
+built_view b = record { nodes = nodes_view b.held.items b.nodes.items; unclosed = reverse b.unclosed.items }
 
 -- The next event was passed and its node added, or the end was told.
 abbrev pub AddsNext : Bool → Now → Now → NodesSoFar → NodesSoFar → Type 0

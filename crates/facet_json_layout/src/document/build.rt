@@ -5,6 +5,14 @@ ghost use Rattle.facet_format.specs.Complaint.{no_memory};
 ghost use Rattle.facet_format.specs.Cursor.{event, next};
 ghost use Rattle.facet_format.specs.Span.{Span as SpecSpan};
 ghost use Rattle.facet_format.specs.Views.{refusal_of, event_kind_of, span_of};
+ghost use Rattle.std.specs.Prelude.{List, slice_get};
+ghost use Rattle.facet_json_layout.specs.Inner.Held.{FindsHeld};
+ghost use Rattle.std.specs.Option.{unwrap_or};
+ghost use Rattle.facet_format.specs.Event.{bytes_of};
+ghost use Rattle.facet_format.specs.HeldText.{text_of};
+ghost use Rattle.facet_format.specs.Views.{scalar_value_of};
+ghost use Rattle.facet_format.specs.declared.event.ScalarValue.{ScalarValue as RustScalar};
+ghost use Rattle.facet_json_core.specs.Told.{tree_of_scalar};
 ghost use Rattle.facet_json_layout.specs.Inner.Building.{added, also, begun, closed, container, ended, built_view, none_yet, AddsNext, AddsAll, LeavesRoom, IsTooDeep, RefusesNext};
 ghost use Rattle.facet_json_tree.specs.Depth.{beyond_bracket, outer, too_deep_at, beyond};
 ghost use Rattle.facet_json_tree.specs.Inner.Beyond.{SameBeyond};
@@ -13,47 +21,38 @@ ghost use Rattle.facet_json_document.specs.Move.{Moves};
 ghost use Rattle.facet_json_document.specs.Now.{ahead, future_of};
 ghost use Rattle.facet_json_document.specs.UnreadLaws.{RefusalWithin};
 ghost use Rattle.facet_json_layout.specs.Formatted.{GetsStuckWithin};
-ghost use Rattle.facet_json_layout.specs.Nodes.{Node as SpecNode, leaf, list, object, closing, node_view, nodes_view};
+ghost use Rattle.facet_json_layout.specs.Nodes.{Node as SpecNode, leaf, key, list, object, closing, nothing, node_view, nodes_view};
 
-use crate::document::node::{Node, key_node, leaf_node};
+use crate::document::built::Built;
+use crate::document::node::Node;
 use facet_format::{
-    ContainerKind, DeserializeError, DeserializeErrorKind, FormatParser, ParseEventKind, Span,
+    ContainerKind, DeserializeError, DeserializeErrorKind, FormatParser, ParseEventKind,
+    ScalarValue, Span,
 };
 use facet_json_parser::JsonParser;
 use std::alloc::{AllocError, Global};
-
-/// The nodes of the events so far.
-#[derive(Drop)]
-pub(crate) struct Built<'i> {
-    /// What makes room for values that no node holds itself.
-    alloc: Global,
-    /// The nodes.
-    nodes: Vec<Node<'i>>,
-    /// The indices of the containers that are not closed yet, the innermost last.
-    unclosed: Vec<usize>,
-    /// How many more containers may be opened, where there is a limit.
-    room: Option<usize>,
-}
+use std::borrow::CowStr;
 
 /// The nodes of all events, of whose containers no more than `depth` stand within one another, where there is such a limit.
 pub(crate) fn build<'i, 't>(
     alloc: Global,
     parser: &mut JsonParser<'i>,
     depth: Option<usize>,
-) -> Result<Vec<Node<'i>>, DeserializeError<'t>>
-    ensures nodes { IfOk result (λ v. AddsAll parser.old (nodes_view v.items)) }
+) -> Result<(Vec<Node<'i>>, Vec<ScalarValue<'i>>), DeserializeError<'t>>
+    ensures nodes { IfOk result (λ v. AddsAll parser.old (nodes_view v.1.items v.0.items)) }
     ensures shallow { OnOk result (beyond (future_of parser.old) depth ≡ None) }
     ensures refused { parser.old.cursor.refusal ≡ None → IfErr result (λ e. LacksMemory (refusal_of e) ⊎ GetsStuckWithin depth parser.old (refusal_of e)) }
     ensures within { IfErr result (λ e. RefusalWithin parser.old.buffer (refusal_of e)) }
 {
     let mut built = Built {
-        alloc,
+        held: Vec::new(alloc),
         nodes: Vec::new(alloc),
         unclosed: Vec::new(alloc),
         room: depth,
     };
     while built.adds_event(parser)? {}
-    Ok(built.nodes)
+    let Built { nodes, held, .. } = built;
+    Ok((nodes, held))
 }
 
 impl<'i> Built<'i> {
@@ -84,14 +83,8 @@ impl<'i> Built<'i> {
         ensures { OnOk result (built_view self.new ≡ added (event_kind_of kind.entry) (built_view self.old)) }
     {
         match kind {
-            ParseEventKind::Scalar(value) => {
-                let node = leaf_node(self.alloc, value)?;
-                self.also(node)
-            }
-            ParseEventKind::FieldKey(key) => {
-                let node = key_node(self.alloc, key.name)?;
-                self.also(node)
-            }
+            ParseEventKind::Scalar(value) => self.add_leaf(value),
+            ParseEventKind::FieldKey(key) => self.add_key(key.name),
             ParseEventKind::SequenceStart(_) => self.begin(Node::List(0)),
             ParseEventKind::StructStart(_) => self.begin(Node::Object(0)),
             ParseEventKind::SequenceEnd => self.end(ContainerKind::Array),
@@ -99,10 +92,54 @@ impl<'i> Built<'i> {
         }
     }
 
+    /// Adds the node of a value that holds no others.
+    #[inline(always)]
+    fn add_leaf(&mut self, value: ScalarValue<'i>) -> Result<(), AllocError>
+        ensures { OnOk result (built_view self.new ≡ also (leaf (unwrap_or (tree_of_scalar (scalar_value_of value.entry)) nothing)) (built_view self.old)) }
+    {
+        match value {
+            ScalarValue::Null => self.also(Node::Null),
+            ScalarValue::Bool(b) => self.also(Node::Bool(b)),
+            ScalarValue::I64(n) => self.also(Node::I64(n)),
+            ScalarValue::U64(n) => self.also(Node::U64(n)),
+            ScalarValue::Str(CowStr::Borrowed(text)) => self.also(Node::Text(text)),
+            other => {
+                let at = self.hold(other)?;
+                self.also(Node::Held(at))
+            }
+        }
+    }
+
+    /// Adds the node of a member's name.
+    #[inline(always)]
+    fn add_key(&mut self, name: CowStr<'i>) -> Result<(), AllocError>
+        ensures { OnOk result (built_view self.new ≡ also (key (bytes_of (text_of name.entry))) (built_view self.old)) }
+    {
+        match name {
+            CowStr::Borrowed(text) => self.also(Node::Key(text)),
+            owned => {
+                let at = self.hold(ScalarValue::Str(owned))?;
+                self.also(Node::HeldKey(at))
+            }
+        }
+    }
+
+    /// Holds a value beside the nodes, and answers its index.
+    #[inline(always)]
+    fn hold(&mut self, value: ScalarValue<'i>) -> Result<usize, AllocError>
+        ensures same { OnOk result (built_view self.new ≡ built_view self.old) }
+        ensures held { IfOk result (λ at. (at < length self.new.held.items) × (slice_get self.new.held.items at ≡ Some value.entry)) }
+    {
+        let at = self.held.len();
+        self.held.push(value)?;
+        Ok(at)
+    }
+
     /// Adds the node of a container that begins.
     #[inline(always)]
     fn begin(&mut self, node: Node<'i>) -> Result<(), AllocError>
-        ensures { OnOk result (built_view self.new ≡ begun (node_view node.entry) (built_view self.old)) }
+        requires { FindsHeld self.old.held.items node }
+        ensures { OnOk result (built_view self.new ≡ begun (node_view self.old.held.items node.entry) (built_view self.old)) }
     {
         self.unclosed.push(self.nodes.len())?;
         self.also(node)
@@ -120,7 +157,7 @@ impl<'i> Built<'i> {
     /// Takes the innermost container off those that are not closed, and writes into its node how many belong to it.
     #[inline(always)]
     fn close(&mut self, kind: ContainerKind)
-        ensures { built_view self.new ≡ closed (container kind) (nodes_view self.old.nodes.items) (reverse self.old.unclosed.items) }
+        ensures { built_view self.new ≡ closed (container kind) (nodes_view self.old.held.items self.old.nodes.items) (reverse self.old.unclosed.items) }
     {
         let Some(start) = self.unclosed.pop() else {
             return;
@@ -134,7 +171,8 @@ impl<'i> Built<'i> {
     /// Adds a node.
     #[inline(always)]
     fn also(&mut self, node: Node<'i>) -> Result<(), AllocError>
-        ensures { OnOk result (built_view self.new ≡ also (node_view node.entry) (built_view self.old)) }
+        requires { FindsHeld self.old.held.items node }
+        ensures { OnOk result (built_view self.new ≡ also (node_view self.old.held.items node.entry) (built_view self.old)) }
     {
         self.nodes.push(node)?;
         Ok(())
@@ -207,7 +245,7 @@ fn room_behind<'t>(room: Option<usize>) -> Result<Option<usize>, DeserializeErro
 #[inline(always)]
 fn put<'i>(nodes: &mut Vec<Node<'i>>, at: usize, node: Node<'i>)
     requires { at < length nodes.old.items }
-    ensures { nodes_view nodes.new.items ≡ set (nodes_view nodes.old.items) at (node_view node.entry) }
+    ensures { nodes.new.items ≡ set nodes.old.items at node.entry }
 {
     nodes[at] = node;
 }
@@ -215,7 +253,8 @@ fn put<'i>(nodes: &mut Vec<Node<'i>>, at: usize, node: Node<'i>)
 /// The node of a container that so many of the next nodes belong to.
 #[inline(always)]
 fn container_node<'i>(kind: ContainerKind, inner: usize) -> Node<'i>
-    ensures { node_view result ≡ container kind inner }
+    ensures node { (held : List RustScalar) → node_view held result ≡ container kind inner }
+    ensures held { (held : List RustScalar) → FindsHeld held result }
 {
     match kind {
         ContainerKind::Array => Node::List(inner),

@@ -2,27 +2,34 @@
 
 ghost use Rattle.std.specs.Prelude.{◌≡◌};
 ghost use Rattle.std.specs.Iterator.{YieldsFirstBy, item_count};
-ghost use Rattle.facet_json_layout.specs.Nodes.{items_left, members_left, member_view, value_view};
+ghost use Rattle.facet_json_layout.specs.Nodes.{nodes_view, items_left, members_left, member_view, value_view};
 
 use crate::document::node::Node;
 use crate::document::value::Value;
+use facet_format::ScalarValue;
 
 /// The items of a list, in order.
 #[derive(Clone, Copy, Drop)]
 pub struct Items<'d, 'i> {
     /// The document's nodes.
     nodes: &'d [Node<'i>],
+    /// What no node holds itself.
+    held: &'d [ScalarValue<'i>],
     /// The index of the next item's node, or of the list's end.
     at: usize,
 }
 
 impl<'d, 'i> Items<'d, 'i> {
     /// Those from this index on.
-    pub(crate) fn new(nodes: &'d [Node<'i>], at: usize) -> Items<'d, 'i>
-        ensures nodes { result.nodes.now ≡ nodes.now }
+    pub(crate) fn new(
+        nodes: &'d [Node<'i>],
+        held: &'d [ScalarValue<'i>],
+        at: usize,
+    ) -> Items<'d, 'i>
+        ensures seen { nodes_view result.held.now result.nodes.now ≡ nodes_view held.now nodes.now }
         ensures at { result.at ≡ at }
     {
-        Items { nodes, at }
+        Items { nodes, held, at }
     }
 }
 
@@ -34,7 +41,7 @@ impl<'d, 'i> Iterator for Items<'d, 'i> {
     ghost remaining = { item_count items_left };
 
     fn next(&mut self) -> Option<Value<'d, 'i>> {
-        let here = Value::at(self.nodes, self.at);
+        let here = Value::at(self.nodes, self.held, self.at);
         let next = here.next_item(self.at)?;
         self.at = next;
         Some(here)
@@ -46,17 +53,23 @@ impl<'d, 'i> Iterator for Items<'d, 'i> {
 pub struct Members<'d, 'i> {
     /// The document's nodes.
     nodes: &'d [Node<'i>],
+    /// What no node holds itself.
+    held: &'d [ScalarValue<'i>],
     /// The index of the next member's key, or of the object's end.
     at: usize,
 }
 
 impl<'d, 'i> Members<'d, 'i> {
     /// Those from this index on.
-    pub(crate) fn new(nodes: &'d [Node<'i>], at: usize) -> Members<'d, 'i>
-        ensures nodes { result.nodes.now ≡ nodes.now }
+    pub(crate) fn new(
+        nodes: &'d [Node<'i>],
+        held: &'d [ScalarValue<'i>],
+        at: usize,
+    ) -> Members<'d, 'i>
+        ensures seen { nodes_view result.held.now result.nodes.now ≡ nodes_view held.now nodes.now }
         ensures at { result.at ≡ at }
     {
-        Members { nodes, at }
+        Members { nodes, held, at }
     }
 }
 
@@ -68,9 +81,9 @@ impl<'d, 'i> Iterator for Members<'d, 'i> {
     ghost remaining = { item_count members_left };
 
     fn next(&mut self) -> Option<(&'d str, Value<'d, 'i>)> {
-        let here = Value::at(self.nodes, self.at);
+        let here = Value::at(self.nodes, self.held, self.at);
         let (name, next) = here.member_there(self.at)?;
-        let value = Value::at(self.nodes, self.at + 1);
+        let value = Value::at(self.nodes, self.held, self.at + 1);
         self.at = next;
         Some((name, value))
     }

@@ -1,21 +1,18 @@
 //! The nodes of a document.
 
-ghost use Rattle.std.specs.Prelude.{◌≡◌, false, List, IfOk, MatchOption};
+ghost use Rattle.std.specs.Prelude.{◌≡◌, false, List, slice_get, MatchOption};
 ghost use Rattle.std.specs.Option.{unwrap_or};
 ghost use Rattle.facet_format.specs.Views.{scalar_value_of};
+ghost use Rattle.facet_format.specs.declared.event.ScalarValue.{ScalarValue as RustScalar};
 ghost use Rattle.facet_json_core.specs.Told.{tree_of_scalar};
 ghost use Rattle.facet_json_document.specs.Tree.{Tree};
-ghost use Rattle.facet_format.specs.Event.{bytes_of};
-ghost use Rattle.facet_format.specs.HeldText.{text_of};
-ghost use Rattle.facet_json_layout.specs.Nodes.{Node as SpecNode, leaf_view, value_kind, value_beginning, leaf, key, node_view, nothing, is_leaf, is_key, is_list, is_object, is_closing_node, inner_len as spec_inner};
+ghost use Rattle.facet_json_layout.specs.Nodes.{Node as SpecNode, leaf_view, value_kind, value_beginning, leaf, key, node_view, nothing, held_leaf, held_name, is_leaf, is_key, is_list, is_object, is_closing_node, inner_len as spec_inner};
 
 use facet_format::{Decimal, ScalarValue};
-use std::alloc::{AllocError, Global};
-use std::borrow::CowStr;
 
 /// A node: of a value, a key, or a container's end. A truth value, a whole number of 64 bits, and a text or name that the input has as it is, stand
-/// in the node itself, others in a box, so that a node takes 24 bytes.
-#[derive(Drop)]
+/// in the node itself; of what the document holds beside its nodes, it has the index. So a node takes 24 bytes, and is copied freely.
+#[derive(Clone, Copy)]
 pub enum Node<'i> {
     /// `null`
     Null,
@@ -27,12 +24,12 @@ pub enum Node<'i> {
     U64(u64),
     /// A text in the input.
     Text(&'i str),
-    /// Any other value that holds no others: a decimal, a text with escapes, or the digits of a whole number past 64 bits.
-    Held(Box<ScalarValue<'i>>),
+    /// Any other value that holds no others: a decimal, a text with escapes, or the digits of a whole number past 64 bits. It is held at this index.
+    Held(usize),
     /// The name of a member, in the input; its value begins at the next node.
     Key(&'i str),
-    /// The name of a member, with escapes.
-    HeldKey(Box<CowStr<'i>>),
+    /// The name of a member, with escapes, which is held at this index.
+    HeldKey(usize),
     /// An array, which so many of the next nodes belong to: up to that of its end.
     List(usize),
     /// An object, likewise.
@@ -78,16 +75,16 @@ pub enum ValueKind {
 }
 
 impl<'i> Node<'i> {
-    /// What the value is that begins here.
-    pub(crate) fn kind(&self) -> ValueKind
-        ensures { (later : List (SpecNode × Tree)) → result ≡ value_kind (value_beginning (node_view self.now) later) }
+    /// What the value is that begins here, beside what the document holds.
+    pub(crate) fn kind(&self, held: &[ScalarValue<'i>]) -> ValueKind
+        ensures { (later : List (SpecNode × Tree)) → result ≡ value_kind (value_beginning (node_view held.now self.now) later) }
     {
         match self {
             Node::Bool(_) => ValueKind::Bool,
             Node::I64(_) => ValueKind::Number,
             Node::U64(_) => ValueKind::Number,
             Node::Text(_) => ValueKind::Text,
-            Node::Held(value) => kind_of_scalar(value),
+            Node::Held(at) => leaf_at(held, *at).kind(),
             Node::List(_) => ValueKind::List,
             Node::Object(_) => ValueKind::Object,
             Node::Null | Node::Key(_) | Node::HeldKey(_) | Node::End => ValueKind::Null,
@@ -96,7 +93,7 @@ impl<'i> Node<'i> {
 
     /// How many of the next nodes belong to this one.
     pub(crate) fn inner(&self) -> usize
-        ensures { result ≡ spec_inner (node_view self.now) }
+        ensures { (held : List RustScalar) → result ≡ spec_inner (node_view held self.now) }
     {
         match self {
             Node::List(inner) => *inner,
@@ -105,77 +102,71 @@ impl<'i> Node<'i> {
         }
     }
 
-    /// The value, where it is one that holds no others.
-    pub(crate) fn leaf(&self) -> Option<Leaf<'_, 'i>>
-        ensures { MatchOption result (is_leaf (node_view self.now) ≡ false) (λ l. node_view self.now ≡ leaf (leaf_view l)) }
+    /// The value, where it is one that holds no others, beside what the document holds.
+    pub(crate) fn leaf<'d>(&self, held: &'d [ScalarValue<'i>]) -> Option<Leaf<'d, 'i>>
+        ensures { MatchOption result (is_leaf (node_view held.now self.now) ≡ false) (λ l. node_view held.now self.now ≡ leaf (leaf_view l)) }
     {
         match self {
             Node::Null => Some(Leaf::Null),
             Node::Bool(b) => Some(Leaf::Bool(*b)),
             Node::I64(n) => Some(Leaf::I64(*n)),
             Node::U64(n) => Some(Leaf::U64(*n)),
-            Node::Text(text) => Some(Leaf::Text(text)),
-            Node::Held(value) => Some(leaf_of(value)),
+            Node::Text(text) => Some(Leaf::Text(*text)),
+            Node::Held(at) => Some(leaf_at(held, *at)),
             _ => None,
         }
     }
 
-    /// The name, where it is a key.
-    pub(crate) fn name(&self) -> Option<&str>
-        ensures { MatchOption result (is_key (node_view self.now) ≡ false) (λ name. node_view self.now ≡ key name.now) }
+    /// The name, where it is a key, beside what the document holds.
+    pub(crate) fn name<'d>(&self, held: &'d [ScalarValue<'i>]) -> Option<&'d str>
+        ensures { MatchOption result (is_key (node_view held.now self.now) ≡ false) (λ name. node_view held.now self.now ≡ key name.now) }
     {
         match self {
-            Node::Key(name) => Some(name),
-            Node::HeldKey(name) => Some(name.as_str()),
+            Node::Key(name) => Some(*name),
+            Node::HeldKey(at) => Some(name_at(held, *at)),
             _ => None,
         }
     }
 
     /// Whether it is an array's.
     pub(crate) fn is_list(&self) -> bool
-        ensures { result ≡ is_list (node_view self.now) }
+        ensures { (held : List RustScalar) → result ≡ is_list (node_view held self.now) }
     {
         matches!(self, Node::List(_))
     }
 
     /// Whether it is an object's.
     pub(crate) fn is_object(&self) -> bool
-        ensures { result ≡ is_object (node_view self.now) }
+        ensures { (held : List RustScalar) → result ≡ is_object (node_view held self.now) }
     {
         matches!(self, Node::Object(_))
     }
 
     /// Whether it is a container's end.
     pub(crate) fn is_end(&self) -> bool
-        ensures { result ≡ is_closing_node (node_view self.now) }
+        ensures { (held : List RustScalar) → result ≡ is_closing_node (node_view held self.now) }
     {
         matches!(self, Node::End)
     }
 }
 
-/// The node of a value that holds no others.
-#[inline(always)]
-pub(crate) fn leaf_node<'i>(alloc: Global, value: ScalarValue<'i>) -> Result<Node<'i>, AllocError>
-    ensures { IfOk result (λ n. node_view n ≡ leaf (unwrap_or (tree_of_scalar (scalar_value_of value.entry)) nothing)) }
+/// The value that is held at this index.
+fn leaf_at<'d, 'i>(held: &'d [ScalarValue<'i>], at: usize) -> Leaf<'d, 'i>
+    ensures { leaf_view result ≡ held_leaf (slice_get held.now at) }
 {
-    match value {
-        ScalarValue::Null => Ok(Node::Null),
-        ScalarValue::Bool(b) => Ok(Node::Bool(b)),
-        ScalarValue::I64(n) => Ok(Node::I64(n)),
-        ScalarValue::U64(n) => Ok(Node::U64(n)),
-        ScalarValue::Str(CowStr::Borrowed(text)) => Ok(Node::Text(text)),
-        other => Ok(Node::Held(Box::new(alloc, other)?)),
+    match held.get(at) {
+        Some(value) => leaf_of(value),
+        None => Leaf::Other,
     }
 }
 
-/// The node of a member's name.
-#[inline(always)]
-pub(crate) fn key_node<'i>(alloc: Global, name: CowStr<'i>) -> Result<Node<'i>, AllocError>
-    ensures { IfOk result (λ n. node_view n ≡ key (bytes_of (text_of name.entry))) }
+/// The name that is held at this index.
+fn name_at<'d>(held: &'d [ScalarValue<'_>], at: usize) -> &'d str
+    ensures { result.now ≡ held_name (slice_get held.now at) }
 {
-    match name {
-        CowStr::Borrowed(text) => Ok(Node::Key(text)),
-        owned => Ok(Node::HeldKey(Box::new(alloc, owned)?)),
+    match held.get(at) {
+        Some(ScalarValue::Str(name)) => name.as_str(),
+        _ => "",
     }
 }
 
@@ -195,16 +186,18 @@ fn leaf_of<'d, 'i>(value: &'d ScalarValue<'i>) -> Leaf<'d, 'i>
     }
 }
 
-/// What a value is that holds no others.
-fn kind_of_scalar(value: &ScalarValue<'_>) -> ValueKind
-    ensures { result ≡ value_kind (unwrap_or (tree_of_scalar (scalar_value_of value.now)) nothing) }
-{
-    match value {
-        ScalarValue::Bool(_) => ValueKind::Bool,
-        ScalarValue::I64(_) => ValueKind::Number,
-        ScalarValue::U64(_) => ValueKind::Number,
-        ScalarValue::Decimal(_) => ValueKind::Number,
-        ScalarValue::Str(_) => ValueKind::Text,
-        _ => ValueKind::Null,
+impl Leaf<'_, '_> {
+    /// What the value is.
+    fn kind(self) -> ValueKind
+        ensures { result ≡ value_kind (leaf_view self.entry) }
+    {
+        match self {
+            Leaf::Bool(_) => ValueKind::Bool,
+            Leaf::I64(_) => ValueKind::Number,
+            Leaf::U64(_) => ValueKind::Number,
+            Leaf::Decimal(_) => ValueKind::Number,
+            Leaf::Text(_) => ValueKind::Text,
+            Leaf::Null | Leaf::Other => ValueKind::Null,
+        }
     }
 }

@@ -6,7 +6,7 @@ ghost use Rattle.facet_format.specs.Event.{bytes_of};
 ghost use Rattle.facet_json_tree.specs.Content as content;
 ghost use Rattle.facet_json_tree.specs.Content.{TellsUnsigned, TellsSigned};
 ghost use Rattle.facet_json_tree.specs.Lookup.{member, item, item_at, last_member};
-ghost use Rattle.facet_json_layout.specs.Nodes.{value_kind, value_view, node_view, inner_len, items, members, items_left, members_left, len, trees_len, pairs_len, trees_list, pairs_list};
+ghost use Rattle.facet_json_layout.specs.Nodes.{value_kind, value_view, node_view, nodes_of, nodes_view, inner_len, items, members, items_left, members_left, len, trees_len, pairs_len, trees_list, pairs_list};
 ghost use Rattle.facet_json_layout.specs.Inner.Looking.{IsLeaf, IsNodeAt, IsNextItem, IsMemberAt, from};
 
 mod copying;
@@ -15,24 +15,31 @@ mod writing;
 
 use crate::document::held::{Items, Members};
 use crate::document::node::{Leaf, Node, ValueKind};
-use facet_format::Decimal;
+use facet_format::{Decimal, ScalarValue};
 
 /// A value of a document: a place in it, which is copied freely.
 #[derive(Clone, Copy)]
 pub struct Value<'d, 'i> {
     /// The document's nodes.
     nodes: &'d [Node<'i>],
+    /// What no node holds itself.
+    held: &'d [ScalarValue<'i>],
     /// The index of the value's node.
     index: usize,
 }
 
 impl<'d, 'i> Value<'d, 'i> {
     /// The value whose node has this index.
-    pub(crate) fn at(nodes: &'d [Node<'i>], index: usize) -> Value<'d, 'i>
+    pub(crate) fn at(
+        nodes: &'d [Node<'i>],
+        held: &'d [ScalarValue<'i>],
+        index: usize,
+    ) -> Value<'d, 'i>
         ensures nodes { result.nodes.now ≡ nodes.now }
+        ensures seen { nodes_of result ≡ nodes_view held.now nodes.now }
         ensures index { result.index ≡ index }
     {
-        Value { nodes, index }
+        Value { nodes, held, index }
     }
 
     /// What the value is (RFC 8259, section 3).
@@ -44,7 +51,7 @@ impl<'d, 'i> Value<'d, 'i> {
         ensures { result ≡ value_kind (value_view self.now) }
     {
         match self.node(self.index) {
-            Some(node) => node.kind(),
+            Some(node) => node.kind(self.held),
             None => ValueKind::Null,
         }
     }
@@ -208,7 +215,7 @@ impl<'d, 'i> Value<'d, 'i> {
         if !node.is_list() {
             return None;
         }
-        Some(Items::new(self.nodes, self.index + 1))
+        Some(Items::new(self.nodes, self.held, self.index + 1))
     }
 
     /// The members of an object, in order (RFC 8259, section 4). A name that comes twice stands twice.
@@ -224,7 +231,7 @@ impl<'d, 'i> Value<'d, 'i> {
         if !node.is_object() {
             return None;
         }
-        Some(Members::new(self.nodes, self.index + 1))
+        Some(Members::new(self.nodes, self.held, self.index + 1))
     }
 
     /// How many items a list has.
@@ -260,7 +267,7 @@ impl<'d, 'i> Value<'d, 'i> {
         ensures { IsLeaf (value_view self.now) result }
     {
         let node = self.node(self.index)?;
-        node.leaf()
+        node.leaf(self.held)
     }
 
     /// The node of this index.
@@ -276,7 +283,7 @@ impl<'d, 'i> Value<'d, 'i> {
     /// The index after a node and those that belong to it.
     fn past(&self, at: usize, node: &Node<'i>) -> usize
         requires { at < length self.now.nodes.now }
-        ensures left { from self.now result ≡ drop (inner_len (node_view node.now)) (from self.now (suc at)) }
+        ensures left { from self.now result ≡ drop (inner_len (node_view self.now.held.now node.now)) (from self.now (suc at)) }
         ensures further { at < result }
         ensures within { result ≤ length self.now.nodes.now }
     {
@@ -322,7 +329,7 @@ impl<'d, 'i> Value<'d, 'i> {
         if node.is_end() {
             return None;
         }
-        Some(Value::at(self.nodes, at))
+        Some(Value::at(self.nodes, self.held, at))
     }
 
     /// The value of the last member with this name.
@@ -334,7 +341,7 @@ impl<'d, 'i> Value<'d, 'i> {
         let mut found = None;
         while let Some((name, next)) = self.member_there(at) {
             if name == key {
-                found = Some(Value::at(self.nodes, at + 1));
+                found = Some(Value::at(self.nodes, self.held, at + 1));
             }
             at = next;
         }
@@ -346,7 +353,7 @@ impl<'d, 'i> Value<'d, 'i> {
         ensures { IsMemberAt self.now at result }
     {
         let key = self.node(at)?;
-        let name = key.name()?;
+        let name = key.name(self.held)?;
         let value = self.node(at + 1)?;
         Some((name, self.past(at + 1, value)))
     }

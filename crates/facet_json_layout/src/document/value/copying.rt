@@ -50,7 +50,7 @@ fn copy_value(value: &Value<'_, '_>, alloc: Global) -> Result<Tree, AllocError>
     if node.is_object() {
         return Ok(Tree::Pairs(copy_members(value, alloc)?));
     }
-    match node.leaf() {
+    match node.leaf(value.held) {
         Some(leaf) => copy_leaf(leaf, alloc),
         None => Ok(no_value(alloc)),
     }
@@ -65,7 +65,7 @@ fn copy_items(value: &Value<'_, '_>, alloc: Global) -> Result<Vec<Tree>, AllocEr
     let mut copies = Vec::with_capacity(alloc, value.items_len())?;
     let mut at = value.index + 1;
     while let Some(next) = value.next_item(at) {
-        copies.push(copy_value(&Value::at(value.nodes, at), alloc)?)?;
+        copies.push(copy_value(&Value::at(value.nodes, value.held, at), alloc)?)?;
         at = next;
     }
     Ok(copies)
@@ -81,7 +81,7 @@ fn copy_members(value: &Value<'_, '_>, alloc: Global) -> Result<Vec<(String, Tre
     let mut at = value.index + 1;
     while let Some((key, next)) = value.member_there(at) {
         let name = String::from_str(alloc, key)?;
-        let copy = copy_value(&Value::at(value.nodes, at + 1), alloc)?;
+        let copy = copy_value(&Value::at(value.nodes, value.held, at + 1), alloc)?;
         copies.push((name, copy))?;
         at = next;
     }

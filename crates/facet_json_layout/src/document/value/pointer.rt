@@ -75,7 +75,7 @@ impl<'d, 'i> Value<'d, 'i> {
         let mut found = None;
         while let Some((name, next)) = self.member_there(at) {
             if stands_for(token, name.as_bytes()) {
-                found = Some(Value::at(self.nodes, at + 1));
+                found = Some(Value::at(self.nodes, self.held, at + 1));
             }
             at = next;
         }

@@ -57,7 +57,7 @@ fn write_value(
     if node.is_object() {
         return write_members(serializer, value);
     }
-    match node.leaf() {
+    match node.leaf(value.held) {
         Some(leaf) => write_leaf(serializer, leaf),
         None => write_nothing(serializer),
     }
@@ -77,7 +77,7 @@ fn write_items(
     serializer.begin_seq()?;
     let mut at = value.index + 1;
     while let Some(next) = value.next_item(at) {
-        write_value(serializer, &Value::at(value.nodes, at))?;
+        write_value(serializer, &Value::at(value.nodes, value.held, at))?;
         at = next;
     }
     serializer.end_seq()
@@ -98,7 +98,7 @@ fn write_members(
     let mut at = value.index + 1;
     while let Some((key, next)) = value.member_there(at) {
         serializer.field_key(key)?;
-        write_value(serializer, &Value::at(value.nodes, at + 1))?;
+        write_value(serializer, &Value::at(value.nodes, value.held, at + 1))?;
         at = next;
     }
     serializer.end_struct()

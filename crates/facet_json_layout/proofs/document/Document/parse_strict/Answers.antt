@@ -3,18 +3,18 @@ use Rattle.facet_json_layout.proofs.NodesRead.{strict-read, strict-only, unlimit
 use Rattle.facet_json_layout.proofs.OneDocuments.{strict-lacks}
 use Rattle.facet_json_layout.proofs.document.Document.parse_strict.Goals as goal
 
-pub returns-in_err-strict_nodes-clause-refused : goal.returns-in_err-strict_nodes-clause-refused
-returns-in_err-strict_nodes-clause-refused c =
+pub returns-in_err-nodes-clause-refused : goal.returns-in_err-nodes-clause-refused
+returns-in_err-nodes-clause-refused c =
     let p = err_from_is_err_and c.from_residual.result c.from_residual.ensures.1 in
-    rw (p.1, p.2) (unlimited _ _ c.in_err-strict_nodes.ensures.refused)
+    rw (p.1, p.2) (unlimited _ _ c.in_err-nodes.ensures.refused)
 
-pub returns-in_err-strict_nodes-clause-only : goal.returns-in_err-strict_nodes-clause-only
-returns-in_err-strict_nodes-clause-only c root value d =
+pub returns-in_err-nodes-clause-only : goal.returns-in_err-nodes-clause-only
+returns-in_err-nodes-clause-only c root value d =
     let p = err_from_is_err_and c.from_residual.result c.from_residual.ensures.1 in
-    rw (p.1, p.2) (strict-lacks c.args.input.now _ (root, value, d) (unlimited _ _ c.in_err-strict_nodes.ensures.refused))
+    rw (p.1, p.2) (strict-lacks c.args.input.now _ (root, value, d) (unlimited _ _ c.in_err-nodes.ensures.refused))
 
 pub returns-clause-document : goal.returns-clause-document
-returns-clause-document c = strict-read c.args.input.now _ c.in_ok-strict_nodes.ensures.nodes
+returns-clause-document c = strict-read c.args.input.now _ c.in_ok-nodes.ensures.nodes
 
 pub returns-clause-only : goal.returns-clause-only
-returns-clause-only c root value d = strict-only c.args.input.now _ root value c.in_ok-strict_nodes.ensures.nodes d
+returns-clause-only c root value d = strict-only c.args.input.now _ root value c.in_ok-nodes.ensures.nodes d

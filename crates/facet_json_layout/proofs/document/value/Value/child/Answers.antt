@@ -12,13 +12,13 @@ returns-in_err-node c =
 pub returns-then-is_object : goal.returns-then-is_object
 returns-then-is_object c =
     c.last_for_token.ensures
-    ∙ sym (ap (child (unescaped c.args.token.now)) (object-of c.args.self.now _ c.in_ok-node.ensures (sym c.if-is_object.ensures)))
+    ∙ sym (ap (child (unescaped c.args.token.now)) (object-of c.args.self.now _ c.in_ok-node.ensures (sym (c.if-is_object.ensures _))))
 
 pub returns-then-is_list : goal.returns-then-is_list
 returns-then-is_list c =
     c.item_for_token.ensures
-    ∙ sym (ap (child (unescaped c.args.token.now)) (list-of c.args.self.now _ c.in_ok-node.ensures (sym c.if-is_list.ensures)))
+    ∙ sym (ap (child (unescaped c.args.token.now)) (list-of c.args.self.now _ c.in_ok-node.ensures (sym (c.if-is_list.ensures _))))
 
 pub returns : goal.returns
 returns c =
-    sym (no-child c.args.self.now _ (unescaped c.args.token.now) c.in_ok-node.ensures (sym c.if-is_object.ensures) (sym c.if-is_list.ensures))
+    sym (no-child c.args.self.now _ (unescaped c.args.token.now) c.in_ok-node.ensures (sym (c.if-is_object.ensures _)) (sym (c.if-is_list.ensures _)))

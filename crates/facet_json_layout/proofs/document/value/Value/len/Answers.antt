@@ -7,10 +7,10 @@ pub returns-in_err-node : goal.returns-in_err-node
 returns-in_err-node c = rw c.from_residual.ensures (sym (ap len (empty-value c.args.self.now c.in_err-node.ensures)))
 
 pub returns-then-is_list : goal.returns-then-is_list
-returns-then-is_list c = ap Some c.items_len.ensures ∙ sym (ap len (list-of c.args.self.now _ c.in_ok-node.ensures (sym c.if-is_list.ensures)))
+returns-then-is_list c = ap Some c.items_len.ensures ∙ sym (ap len (list-of c.args.self.now _ c.in_ok-node.ensures (sym (c.if-is_list.ensures _))))
 
 pub returns-then-is_object : goal.returns-then-is_object
-returns-then-is_object c = ap Some c.members_len.ensures ∙ sym (ap len (object-of c.args.self.now _ c.in_ok-node.ensures (sym c.if-is_object.ensures)))
+returns-then-is_object c = ap Some c.members_len.ensures ∙ sym (ap len (object-of c.args.self.now _ c.in_ok-node.ensures (sym (c.if-is_object.ensures _))))
 
 pub returns : goal.returns
-returns c = sym (no-len c.args.self.now _ c.in_ok-node.ensures (sym c.if-is_list.ensures) (sym c.if-is_object.ensures))
+returns c = sym (no-len c.args.self.now _ c.in_ok-node.ensures (sym (c.if-is_list.ensures _)) (sym (c.if-is_object.ensures _)))

@@ -10,9 +10,9 @@ returns-in_err-node c =
     rw c.from_residual.ensures (sym (ap (λ t. option_map pairs_list (as_pairs t)) (empty-value c.args.self.now c.in_err-node.ensures)))
 
 pub returns-then-not-is_object : goal.returns-then-not-is_object
-returns-then-not-is_object c = sym (ap (option_map pairs_list) (no-pairs c.args.self.now _ c.in_ok-node.ensures (sym c.if-not-is_object.ensures)))
+returns-then-not-is_object c = sym (ap (option_map pairs_list) (no-pairs c.args.self.now _ c.in_ok-node.ensures (sym (c.if-not-is_object.ensures _))))
 
 pub returns : goal.returns
 returns c =
-    ap Some (members-from c.args.self.now c.new.result (c.args.self.now.index + 1) c.new.ensures.nodes c.new.ensures.at (omega arith))
-    ∙ sym (ap (λ t. option_map pairs_list (as_pairs t)) (object-of c.args.self.now _ c.in_ok-node.ensures (sym c.if-not-is_object.ensures)))
+    ap Some (members-from c.args.self.now c.new.result (c.args.self.now.index + 1) c.new.ensures.seen c.new.ensures.at (omega arith))
+    ∙ sym (ap (λ t. option_map pairs_list (as_pairs t)) (object-of c.args.self.now _ c.in_ok-node.ensures (sym (c.if-not-is_object.ensures _))))

@@ -1,6 +1,6 @@
 use Rattle.std.proofs.lemmas.Result.{err_from_is_err_and}
 use Rattle.facet_json_layout.proofs.NodesRead.{leveled, refused-deep}
-use Rattle.facet_json_layout.proofs.document.build.Built.adds_event.Goals as goal
+use Rattle.facet_json_layout.proofs.document.built.Built.adds_event.Goals as goal
 
 pub returns-in_err-room-in-Some-clause-refused : goal.returns-in_err-room-in-Some-clause-refused
 returns-in_err-room-in-Some-clause-refused c =
