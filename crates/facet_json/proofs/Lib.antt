@@ -3,6 +3,7 @@ pub mod FieldCells
 pub mod FieldLaws
 pub mod FieldSteps
 pub mod FieldsBack
+pub mod FirstRead
 pub mod ItemsPassed
 pub mod LinePiecesRead
 pub mod LinesRead

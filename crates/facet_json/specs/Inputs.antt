@@ -1,18 +1,22 @@
 -- What it means that an input is read as a value of a type, and that a text comes back.
-use Rattle.std.specs.Prelude.{◌≡◌, ◌⊎◌, ℕ, List, Option, Some, None}
+use Rattle.std.specs.Prelude.{◌≡◌, ◌⊎◌, ℕ, Bool, true, List, Option, Some, None, Result, IfOk, IfErr, OnOk}
 use Rattle.facet_format.specs.Complaint.{Refusal}
 use Rattle.facet_format.specs.Span.{stop}
+use Rattle.facet_format.specs.Views.{refusal_of}
+use Rattle.facet_format.specs.declared.error.DeserializeError.{DeserializeError}
 use Rattle.facet_json_token.specs.Gap.{Mode, plain}
 use Rattle.facet_json_token.specs.Token.{Token}
 use Rattle.facet_json_token.specs.Tokens.{Tokens}
 use Rattle.facet_json_token.specs.TokenList.{tokens}
 use Rattle.facet_json_document.specs.Document.{IsDocument}
-use Rattle.facet_json_document.specs.Language.{Language}
+use Rattle.facet_json_document.specs.Language.{Language, lenient, strict}
 use Rattle.facet_json_document.specs.Node.{Node}
 use Rattle.facet_json_document.specs.Run.{Run}
 use Rattle.facet_json_document.specs.Tree.{Tree}
-use Rattle.facet_json_document.specs.StrictDocument.{IsStrictDocument}
+use Rattle.facet_json_document.specs.StrictDocument.{IsStrictDocument, IsStrict}
 use Rattle.facet_json_document.specs.Now.{Now, fresh_in}
+use Rattle.facet_json_document.specs.OneRun.{IsOneRun}
+use Rattle.facet_json_document.specs.UnreadLaws.{RefusalWithin}
 use Rattle.facet_json_core.specs.Refusing.{ComesTo, TellsRefusal}
 use Rattle.facet_json_core.specs.Reading.{LacksMemory}
 
@@ -55,3 +59,23 @@ pub record IsToldOf (input : List ℕ) (language : Language) (refusal : Refusal)
   pub last : Now
   pub came : ComesTo (fresh_in input language) last
   pub tells : TellsRefusal (fresh_in input language) last refusal
+
+-- What a call answers that reads the value which an input begins with; of a type whose values are whole documents, `whole` is true.
+pub record FirstValue {V A : Type 0} (reading : List ℕ → Node → Option V) (whole : Bool) (view : A → V) (input : List ℕ) (mode : Mode)
+    (result : Result A DeserializeError) : Type 0 where
+  pub read : IfOk result (λ v. IsReadFrom reading input mode (view v))
+  pub unread : IfErr result (λ e. IsUnreadFrom reading input mode (refusal_of e))
+  pub document : whole ≡ true → OnOk result (BeginsWithDocument input mode)
+  pub one_value : OnOk result (BeginsWithRun input mode)
+  pub within : IfErr result (λ e. RefusalWithin input (refusal_of e))
+  pub tells : IfErr result (λ e. IsToldOf input (lenient mode) (refusal_of e))
+
+-- The same of one that reads the value which a strict input is.
+pub record StrictValue {V A : Type 0} (reading : List ℕ → Node → Option V) (whole : Bool) (view : A → V) (input : List ℕ)
+    (result : Result A DeserializeError) : Type 0 where
+  pub read : IfOk result (λ v. IsReadStrictly reading input (view v))
+  pub unread : IfErr result (λ e. IsUnreadStrictly reading input (refusal_of e))
+  pub document : whole ≡ true → OnOk result (IsStrict input)
+  pub one_run : OnOk result (IsOneRun input plain)
+  pub within : IfErr result (λ e. RefusalWithin input (refusal_of e))
+  pub tells : IfErr result (λ e. IsToldOf input (strict plain) (refusal_of e))

@@ -8,7 +8,7 @@ ghost use Rattle.facet_json_document.specs.Language.{lenient, strict};
 ghost use Rattle.facet_json_document.specs.OneRun.{IsOneRun};
 ghost use Rattle.facet_json_document.specs.StrictDocument.{IsStrict};
 ghost use Rattle.facet_json_document.specs.UnreadLaws.{RefusalWithin};
-ghost use Rattle.facet_json.specs.Inputs.{IsReadFrom, IsUnreadFrom, BeginsWithDocument, BeginsWithRun, IsReadStrictly, IsUnreadStrictly, IsToldOf};
+ghost use Rattle.facet_json.specs.Inputs.{FirstValue, StrictValue};
 ghost use Rattle.facet_json.specs.Lines.{lines, IsBlank, ComeFirst, PassesLines, GivesLine, HasNoLine};
 ghost use Rattle.facet_json.specs.LineViews.{line_message, IsNext, TellsLine, IsReadFailure};
 ghost use Rattle.facet_json.specs.Inner.LinePlaces.{left_at, IsAt};
@@ -43,13 +43,8 @@ impl<'a> Line<'a> {
     ///
     /// As `from_slice`. A span counts from the start of the line.
     pub fn value<'t, T: Facet<'a>>(&self, alloc: Global) -> Result<T, DeserializeError<'t>>
-        ensures read { IfOk result (λ v. IsReadFrom T.shape.reading self.now.text.now plain (T.view v)) }
+        ensures value { FirstValue T.shape.reading T.whole T.view self.now.text.now plain result }
         ensures owned { IfOk result T.owned }
-        ensures unread { IfErr result (λ e. IsUnreadFrom T.shape.reading self.now.text.now plain (refusal_of e)) }
-        ensures document { T.whole ≡ true → OnOk result (BeginsWithDocument self.now.text.now plain) }
-        ensures one_value { OnOk result (BeginsWithRun self.now.text.now plain) }
-        ensures within { IfErr result (λ e. RefusalWithin self.now.text.now (refusal_of e)) }
-        ensures tells { IfErr result (λ e. IsToldOf self.now.text.now (lenient plain) (refusal_of e)) }
     {
         from_slice(alloc, self.text)
     }
@@ -60,13 +55,8 @@ impl<'a> Line<'a> {
     ///
     /// As `from_slice_strict`. A span counts from the start of the line.
     pub fn value_strict<'t, T: Facet<'a>>(&self, alloc: Global) -> Result<T, DeserializeError<'t>>
-        ensures read { IfOk result (λ v. IsReadStrictly T.shape.reading self.now.text.now (T.view v)) }
+        ensures value { StrictValue T.shape.reading T.whole T.view self.now.text.now result }
         ensures owned { IfOk result T.owned }
-        ensures unread { IfErr result (λ e. IsUnreadStrictly T.shape.reading self.now.text.now (refusal_of e)) }
-        ensures document { T.whole ≡ true → OnOk result (IsStrict self.now.text.now) }
-        ensures one_run { OnOk result (IsOneRun self.now.text.now plain) }
-        ensures within { IfErr result (λ e. RefusalWithin self.now.text.now (refusal_of e)) }
-        ensures tells { IfErr result (λ e. IsToldOf self.now.text.now (strict plain) (refusal_of e)) }
     {
         from_slice_strict(alloc, self.text)
     }

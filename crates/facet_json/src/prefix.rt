@@ -1,12 +1,9 @@
 //! Values of a type from the start of an input, with where their document ends: what follows may be another one.
 
-ghost use Rattle.std.specs.Prelude.{◌≡◌, ◌<◌, ◌≤◌, ◌^◌, ℕ, List, true, length, IfOk, IfErr, OnOk};
-ghost use Rattle.facet_format.specs.Views.{refusal_of};
+ghost use Rattle.std.specs.Prelude.{◌≡◌, ◌<◌, ◌≤◌, ◌^◌, ℕ, List, length, IfOk};
 ghost use Rattle.facet_json_token.specs.Gap.{Mode, plain};
-ghost use Rattle.facet_json.specs.Inputs.{IsReadFrom, IsUnreadFrom, BeginsWithDocument, IsToldOf, BeginsWithRunTo};
-ghost use Rattle.facet_json_document.specs.Language.{lenient};
+ghost use Rattle.facet_json.specs.Inputs.{FirstValue, BeginsWithRunTo};
 ghost use Rattle.facet_json_document.specs.Now.{fresh};
-ghost use Rattle.facet_json_document.specs.UnreadLaws.{RefusalWithin};
 
 use crate::fields::last_span;
 use facet_format::DeserializeError;
@@ -28,14 +25,10 @@ pub fn from_slice_prefix<'t, 'de, T: Facet<'de>>(
     alloc: Global,
     input: &'de [u8],
 ) -> Result<(T, usize), DeserializeError<'t>>
-    ensures read { IfOk result (λ r. IsReadFrom T.shape.reading input.now plain (T.view r.0)) }
+    ensures value { FirstValue T.shape.reading T.whole (λ r. T.view r.0) input.now plain result }
     ensures owned { IfOk result (λ r. T.owned r.0) }
-    ensures unread { IfErr result (λ e. IsUnreadFrom T.shape.reading input.now plain (refusal_of e)) }
-    ensures document { T.whole ≡ true → OnOk result (BeginsWithDocument input.now plain) }
     ensures end { IfOk result (λ r. BeginsWithRunTo input.now plain r.1) }
     ensures inside { IfOk result (λ r. (0 < r.1) × (r.1 ≤ length input.now)) }
-    ensures within { IfErr result (λ e. RefusalWithin input.now (refusal_of e)) }
-    ensures tells { IfErr result (λ e. IsToldOf input.now (lenient plain) (refusal_of e)) }
 {
     value_and_end(alloc, &mut JsonParser::new(alloc, input))
 }
@@ -53,14 +46,10 @@ pub fn from_str_prefix<'t, 'de, T: Facet<'de>>(
     alloc: Global,
     input: &'de str,
 ) -> Result<(T, usize), DeserializeError<'t>>
-    ensures read { IfOk result (λ r. IsReadFrom T.shape.reading input.now plain (T.view r.0)) }
+    ensures value { FirstValue T.shape.reading T.whole (λ r. T.view r.0) input.now plain result }
     ensures owned { IfOk result (λ r. T.owned r.0) }
-    ensures unread { IfErr result (λ e. IsUnreadFrom T.shape.reading input.now plain (refusal_of e)) }
-    ensures document { T.whole ≡ true → OnOk result (BeginsWithDocument input.now plain) }
     ensures end { IfOk result (λ r. BeginsWithRunTo input.now plain r.1) }
     ensures inside { IfOk result (λ r. (0 < r.1) × (r.1 ≤ length input.now)) }
-    ensures within { IfErr result (λ e. RefusalWithin input.now (refusal_of e)) }
-    ensures tells { IfErr result (λ e. IsToldOf input.now (lenient plain) (refusal_of e)) }
 {
     let bytes = input.as_bytes();
     value_and_end(alloc, &mut JsonParser::new_trusted(alloc, bytes))
@@ -71,21 +60,13 @@ fn value_and_end<'t, 'de, T: Facet<'de>>(
     alloc: Global,
     parser: &mut JsonParser<'de>,
 ) -> Result<(T, usize), DeserializeError<'t>>
-    ensures read { (input : List ℕ) (mode : Mode) → parser.old ≡ fresh input mode
-        → IfOk result (λ r. IsReadFrom T.shape.reading input mode (T.view r.0)) }
+    ensures value { (input : List ℕ) (mode : Mode) → parser.old ≡ fresh input mode
+        → FirstValue T.shape.reading T.whole (λ r. T.view r.0) input mode result }
     ensures owned { IfOk result (λ r. T.owned r.0) }
-    ensures unread { (input : List ℕ) (mode : Mode) → parser.old ≡ fresh input mode
-        → IfErr result (λ e. IsUnreadFrom T.shape.reading input mode (refusal_of e)) }
-    ensures document { (input : List ℕ) (mode : Mode) → parser.old ≡ fresh input mode
-        → T.whole ≡ true → OnOk result (BeginsWithDocument input mode) }
     ensures end { (input : List ℕ) (mode : Mode) → length input < 2 ^ 64 → parser.old ≡ fresh input mode
         → IfOk result (λ r. BeginsWithRunTo input mode r.1) }
     ensures inside { (input : List ℕ) (mode : Mode) → length input < 2 ^ 64 → parser.old ≡ fresh input mode
         → IfOk result (λ r. (0 < r.1) × (r.1 ≤ length input)) }
-    ensures within { (input : List ℕ) (mode : Mode) → parser.old ≡ fresh input mode
-        → IfErr result (λ e. RefusalWithin input (refusal_of e)) }
-    ensures tells { (input : List ℕ) (mode : Mode) → parser.old ≡ fresh input mode
-        → IfErr result (λ e. IsToldOf input (lenient mode) (refusal_of e)) }
 {
     let value = T::read_owned(alloc, parser)?;
     Ok((value, last_span(parser).end()))

@@ -1,12 +1,9 @@
 //! Values of a type from the bytes or the text that they stand in.
 
-ghost use Rattle.std.specs.Prelude.{◌≡◌, ℕ, List, true, false, cond, IfOk, IfErr, OnOk};
-ghost use Rattle.facet_format.specs.Views.{refusal_of};
+ghost use Rattle.std.specs.Prelude.{◌≡◌, ℕ, List, false, cond, IfOk};
 ghost use Rattle.facet_json_token.specs.Gap.{Mode, plain, jsonc};
-ghost use Rattle.facet_json_document.specs.Language.{lenient};
 ghost use Rattle.facet_json_document.specs.Now.{fresh};
-ghost use Rattle.facet_json_document.specs.UnreadLaws.{RefusalWithin};
-ghost use Rattle.facet_json.specs.Inputs.{IsReadFrom, IsUnreadFrom, BeginsWithDocument, IsToldOf, BeginsWithRun};
+ghost use Rattle.facet_json.specs.Inputs.{FirstValue};
 
 use facet_format::DeserializeError;
 use facet_json_facet::Facet;
@@ -29,13 +26,8 @@ pub fn from_slice<'t, 'de, T: Facet<'de>>(
     alloc: Global,
     input: &'de [u8],
 ) -> Result<T, DeserializeError<'t>>
-    ensures read { IfOk result (λ v. IsReadFrom T.shape.reading input.now plain (T.view v)) }
+    ensures value { FirstValue T.shape.reading T.whole T.view input.now plain result }
     ensures owned { IfOk result T.owned }
-    ensures unread { IfErr result (λ e. IsUnreadFrom T.shape.reading input.now plain (refusal_of e)) }
-    ensures document { T.whole ≡ true → OnOk result (BeginsWithDocument input.now plain) }
-    ensures one_value { OnOk result (BeginsWithRun input.now plain) }
-    ensures within { IfErr result (λ e. RefusalWithin input.now (refusal_of e)) }
-    ensures tells { IfErr result (λ e. IsToldOf input.now (lenient plain) (refusal_of e)) }
 {
     first_value(alloc, &mut JsonParser::new(alloc, input), false)
 }
@@ -54,12 +46,7 @@ pub fn from_slice_borrowed<'t, 'de, T: Facet<'de>>(
     alloc: Global,
     input: &'de [u8],
 ) -> Result<T, DeserializeError<'t>>
-    ensures read { IfOk result (λ v. IsReadFrom T.shape.reading_borrowed input.now plain (T.view v)) }
-    ensures unread { IfErr result (λ e. IsUnreadFrom T.shape.reading_borrowed input.now plain (refusal_of e)) }
-    ensures document { T.whole ≡ true → OnOk result (BeginsWithDocument input.now plain) }
-    ensures one_value { OnOk result (BeginsWithRun input.now plain) }
-    ensures within { IfErr result (λ e. RefusalWithin input.now (refusal_of e)) }
-    ensures tells { IfErr result (λ e. IsToldOf input.now (lenient plain) (refusal_of e)) }
+    ensures { FirstValue T.shape.reading_borrowed T.whole T.view input.now plain result }
 {
     first_value(alloc, &mut JsonParser::new(alloc, input), true)
 }
@@ -77,13 +64,8 @@ pub fn from_slice_jsonc<'t, 'de, T: Facet<'de>>(
     alloc: Global,
     input: &'de [u8],
 ) -> Result<T, DeserializeError<'t>>
-    ensures read { IfOk result (λ v. IsReadFrom T.shape.reading input.now jsonc (T.view v)) }
+    ensures value { FirstValue T.shape.reading T.whole T.view input.now jsonc result }
     ensures owned { IfOk result T.owned }
-    ensures unread { IfErr result (λ e. IsUnreadFrom T.shape.reading input.now jsonc (refusal_of e)) }
-    ensures document { T.whole ≡ true → OnOk result (BeginsWithDocument input.now jsonc) }
-    ensures one_value { OnOk result (BeginsWithRun input.now jsonc) }
-    ensures within { IfErr result (λ e. RefusalWithin input.now (refusal_of e)) }
-    ensures tells { IfErr result (λ e. IsToldOf input.now (lenient jsonc) (refusal_of e)) }
 {
     first_value(alloc, &mut JsonParser::new_jsonc(alloc, input), false)
 }
@@ -101,12 +83,7 @@ pub fn from_slice_borrowed_jsonc<'t, 'de, T: Facet<'de>>(
     alloc: Global,
     input: &'de [u8],
 ) -> Result<T, DeserializeError<'t>>
-    ensures read { IfOk result (λ v. IsReadFrom T.shape.reading_borrowed input.now jsonc (T.view v)) }
-    ensures unread { IfErr result (λ e. IsUnreadFrom T.shape.reading_borrowed input.now jsonc (refusal_of e)) }
-    ensures document { T.whole ≡ true → OnOk result (BeginsWithDocument input.now jsonc) }
-    ensures one_value { OnOk result (BeginsWithRun input.now jsonc) }
-    ensures within { IfErr result (λ e. RefusalWithin input.now (refusal_of e)) }
-    ensures tells { IfErr result (λ e. IsToldOf input.now (lenient jsonc) (refusal_of e)) }
+    ensures { FirstValue T.shape.reading_borrowed T.whole T.view input.now jsonc result }
 {
     first_value(alloc, &mut JsonParser::new_jsonc(alloc, input), true)
 }
@@ -124,13 +101,8 @@ pub fn from_str<'t, 'de, T: Facet<'de>>(
     alloc: Global,
     input: &'de str,
 ) -> Result<T, DeserializeError<'t>>
-    ensures read { IfOk result (λ v. IsReadFrom T.shape.reading input.now plain (T.view v)) }
+    ensures value { FirstValue T.shape.reading T.whole T.view input.now plain result }
     ensures owned { IfOk result T.owned }
-    ensures unread { IfErr result (λ e. IsUnreadFrom T.shape.reading input.now plain (refusal_of e)) }
-    ensures document { T.whole ≡ true → OnOk result (BeginsWithDocument input.now plain) }
-    ensures one_value { OnOk result (BeginsWithRun input.now plain) }
-    ensures within { IfErr result (λ e. RefusalWithin input.now (refusal_of e)) }
-    ensures tells { IfErr result (λ e. IsToldOf input.now (lenient plain) (refusal_of e)) }
 {
     first_value(
         alloc,
@@ -152,12 +124,7 @@ pub fn from_str_borrowed<'t, 'de, T: Facet<'de>>(
     alloc: Global,
     input: &'de str,
 ) -> Result<T, DeserializeError<'t>>
-    ensures read { IfOk result (λ v. IsReadFrom T.shape.reading_borrowed input.now plain (T.view v)) }
-    ensures unread { IfErr result (λ e. IsUnreadFrom T.shape.reading_borrowed input.now plain (refusal_of e)) }
-    ensures document { T.whole ≡ true → OnOk result (BeginsWithDocument input.now plain) }
-    ensures one_value { OnOk result (BeginsWithRun input.now plain) }
-    ensures within { IfErr result (λ e. RefusalWithin input.now (refusal_of e)) }
-    ensures tells { IfErr result (λ e. IsToldOf input.now (lenient plain) (refusal_of e)) }
+    ensures { FirstValue T.shape.reading_borrowed T.whole T.view input.now plain result }
 {
     first_value(
         alloc,
@@ -179,13 +146,8 @@ pub fn from_str_jsonc<'t, 'de, T: Facet<'de>>(
     alloc: Global,
     input: &'de str,
 ) -> Result<T, DeserializeError<'t>>
-    ensures read { IfOk result (λ v. IsReadFrom T.shape.reading input.now jsonc (T.view v)) }
+    ensures value { FirstValue T.shape.reading T.whole T.view input.now jsonc result }
     ensures owned { IfOk result T.owned }
-    ensures unread { IfErr result (λ e. IsUnreadFrom T.shape.reading input.now jsonc (refusal_of e)) }
-    ensures document { T.whole ≡ true → OnOk result (BeginsWithDocument input.now jsonc) }
-    ensures one_value { OnOk result (BeginsWithRun input.now jsonc) }
-    ensures within { IfErr result (λ e. RefusalWithin input.now (refusal_of e)) }
-    ensures tells { IfErr result (λ e. IsToldOf input.now (lenient jsonc) (refusal_of e)) }
 {
     let text = input.as_bytes();
     first_value(
@@ -208,12 +170,7 @@ pub fn from_str_borrowed_jsonc<'t, 'de, T: Facet<'de>>(
     alloc: Global,
     input: &'de str,
 ) -> Result<T, DeserializeError<'t>>
-    ensures read { IfOk result (λ v. IsReadFrom T.shape.reading_borrowed input.now jsonc (T.view v)) }
-    ensures unread { IfErr result (λ e. IsUnreadFrom T.shape.reading_borrowed input.now jsonc (refusal_of e)) }
-    ensures document { T.whole ≡ true → OnOk result (BeginsWithDocument input.now jsonc) }
-    ensures one_value { OnOk result (BeginsWithRun input.now jsonc) }
-    ensures within { IfErr result (λ e. RefusalWithin input.now (refusal_of e)) }
-    ensures tells { IfErr result (λ e. IsToldOf input.now (lenient jsonc) (refusal_of e)) }
+    ensures { FirstValue T.shape.reading_borrowed T.whole T.view input.now jsonc result }
 {
     let text = input.as_bytes();
     first_value(alloc, &mut JsonParser::new_jsonc_trusted(alloc, text), true)
@@ -226,18 +183,9 @@ fn first_value<'t, 'de, T: Facet<'de>>(
     parser: &mut JsonParser<'de>,
     borrows: bool,
 ) -> Result<T, DeserializeError<'t>>
-    ensures read { (input : List ℕ) (mode : Mode) → parser.old ≡ fresh input mode
-        → IfOk result (λ v. IsReadFrom (cond borrows T.shape.reading_borrowed T.shape.reading) input mode (T.view v)) }
+    ensures value { (input : List ℕ) (mode : Mode) → parser.old ≡ fresh input mode
+        → FirstValue (cond borrows T.shape.reading_borrowed T.shape.reading) T.whole T.view input mode result }
     ensures owned { borrows ≡ false → IfOk result T.owned }
-    ensures unread { (input : List ℕ) (mode : Mode) → parser.old ≡ fresh input mode
-        → IfErr result (λ e. IsUnreadFrom (cond borrows T.shape.reading_borrowed T.shape.reading) input mode (refusal_of e)) }
-    ensures document { (input : List ℕ) (mode : Mode) → parser.old ≡ fresh input mode
-        → T.whole ≡ true → OnOk result (BeginsWithDocument input mode) }
-    ensures one_value { (input : List ℕ) (mode : Mode) → parser.old ≡ fresh input mode → OnOk result (BeginsWithRun input mode) }
-    ensures within { (input : List ℕ) (mode : Mode) → parser.old ≡ fresh input mode
-        → IfErr result (λ e. RefusalWithin input (refusal_of e)) }
-    ensures tells { (input : List ℕ) (mode : Mode) → parser.old ≡ fresh input mode
-        → IfErr result (λ e. IsToldOf input (lenient mode) (refusal_of e)) }
 {
     if borrows {
         T::read(alloc, parser)

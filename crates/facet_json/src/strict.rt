@@ -1,13 +1,10 @@
 //! Values of a type from bytes or a text that has to be RFC 8259 alone, from its start to its end.
 
-ghost use Rattle.std.specs.Prelude.{◌≡◌, ℕ, List, true, IfOk, IfErr, OnOk};
+ghost use Rattle.std.specs.Prelude.{◌≡◌, ℕ, List, IfOk};
 ghost use Rattle.facet_json_token.specs.Gap.{plain};
 ghost use Rattle.facet_json_document.specs.Language.{strict};
-ghost use Rattle.facet_json_document.specs.StrictDocument.{IsStrict};
 ghost use Rattle.facet_json_document.specs.Now.{fresh_in};
-ghost use Rattle.facet_json_document.specs.OneRun.{IsOneRun};
-ghost use Rattle.facet_json_facet.specs.Calls.{refusal_of, RefusalWithin};
-ghost use Rattle.facet_json.specs.Inputs.{IsReadStrictly, IsToldOf, IsUnreadStrictly};
+ghost use Rattle.facet_json.specs.Inputs.{StrictValue};
 
 use facet_format::DeserializeError;
 use facet_json_core::pass_end;
@@ -34,13 +31,8 @@ pub fn from_slice_strict<'t, 'de, T: Facet<'de>>(
     alloc: Global,
     input: &'de [u8],
 ) -> Result<T, DeserializeError<'t>>
-    ensures read { IfOk result (λ v. IsReadStrictly T.shape.reading input.now (T.view v)) }
+    ensures value { StrictValue T.shape.reading T.whole T.view input.now result }
     ensures owned { IfOk result T.owned }
-    ensures unread { IfErr result (λ e. IsUnreadStrictly T.shape.reading input.now (refusal_of e)) }
-    ensures document { T.whole ≡ true → OnOk result (IsStrict input.now) }
-    ensures one_run { OnOk result (IsOneRun input.now plain) }
-    ensures within { IfErr result (λ e. RefusalWithin input.now (refusal_of e)) }
-    ensures tells { IfErr result (λ e. IsToldOf input.now (strict plain) (refusal_of e)) }
 {
     whole_value(alloc, &mut JsonParser::new_strict(alloc, input))
 }
@@ -59,13 +51,8 @@ pub fn from_str_strict<'t, 'de, T: Facet<'de>>(
     alloc: Global,
     input: &'de str,
 ) -> Result<T, DeserializeError<'t>>
-    ensures read { IfOk result (λ v. IsReadStrictly T.shape.reading input.now (T.view v)) }
+    ensures value { StrictValue T.shape.reading T.whole T.view input.now result }
     ensures owned { IfOk result T.owned }
-    ensures unread { IfErr result (λ e. IsUnreadStrictly T.shape.reading input.now (refusal_of e)) }
-    ensures document { T.whole ≡ true → OnOk result (IsStrict input.now) }
-    ensures one_run { OnOk result (IsOneRun input.now plain) }
-    ensures within { IfErr result (λ e. RefusalWithin input.now (refusal_of e)) }
-    ensures tells { IfErr result (λ e. IsToldOf input.now (strict plain) (refusal_of e)) }
 {
     let bytes = input.as_bytes();
     whole_value(alloc, &mut JsonParser::new_strict_trusted(alloc, bytes))
@@ -76,18 +63,8 @@ fn whole_value<'t, 'de, T: Facet<'de>>(
     alloc: Global,
     parser: &mut JsonParser<'de>,
 ) -> Result<T, DeserializeError<'t>>
-    ensures read { (input : List ℕ) → parser.old ≡ fresh_in input (strict plain)
-        → IfOk result (λ v. IsReadStrictly T.shape.reading input (T.view v)) }
+    ensures value { (input : List ℕ) → parser.old ≡ fresh_in input (strict plain) → StrictValue T.shape.reading T.whole T.view input result }
     ensures owned { IfOk result T.owned }
-    ensures unread { (input : List ℕ) → parser.old ≡ fresh_in input (strict plain)
-        → IfErr result (λ e. IsUnreadStrictly T.shape.reading input (refusal_of e)) }
-    ensures document { (input : List ℕ) → parser.old ≡ fresh_in input (strict plain)
-        → T.whole ≡ true → OnOk result (IsStrict input) }
-    ensures one_run { (input : List ℕ) → parser.old ≡ fresh_in input (strict plain) → OnOk result (IsOneRun input plain) }
-    ensures within { (input : List ℕ) → parser.old ≡ fresh_in input (strict plain)
-        → IfErr result (λ e. RefusalWithin input (refusal_of e)) }
-    ensures tells { (input : List ℕ) → parser.old ≡ fresh_in input (strict plain)
-        → IfErr result (λ e. IsToldOf input (strict plain) (refusal_of e)) }
 {
     let value = T::read_owned(alloc, parser)?;
     pass_end(parser)?;

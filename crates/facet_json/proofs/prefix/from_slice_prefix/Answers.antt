@@ -1,20 +1,11 @@
 use Rattle.std.proofs.Common.{arith}
 use Rattle.facet_json.proofs.prefix.from_slice_prefix.Goals as goal
 
-pub returns-clause-read : goal.returns-clause-read
-returns-clause-read g c = c.value_and_end.ensures.read _ _ c.new.ensures
-
-pub returns-clause-unread : goal.returns-clause-unread
-returns-clause-unread g c = c.value_and_end.ensures.unread _ _ c.new.ensures
+pub returns-clause-value : goal.returns-clause-value
+returns-clause-value g c = c.value_and_end.ensures.value _ _ c.new.ensures
 
 pub returns-clause-end : goal.returns-clause-end
 returns-clause-end g c = c.value_and_end.ensures.end _ _ (omega arith) c.new.ensures
 
 pub returns-clause-inside : goal.returns-clause-inside
 returns-clause-inside g c = c.value_and_end.ensures.inside _ _ (omega arith) c.new.ensures
-
-pub returns-clause-within : goal.returns-clause-within
-returns-clause-within g c = c.value_and_end.ensures.within _ _ c.new.ensures
-
-pub returns-clause-tells : goal.returns-clause-tells
-returns-clause-tells g c = c.value_and_end.ensures.tells _ _ c.new.ensures

@@ -1,34 +1,23 @@
 -- What is read from the start of a new parser is read of its input, and ends where the parser stands then.
 use Rattle.std.proofs.Common.{◌∙◌, ap, arith}
 use Rattle.std.proofs.lemmas.Result.{err_from_is_err_and}
+use Rattle.std.specs.Prelude.{Err}
 use Rattle.facet_format.specs.Span.{stop}
-use Rattle.facet_format.specs.Views.{refusal_of}
-use Rattle.facet_json_document.specs.Language.{lenient}
 use Rattle.facet_json_document.specs.Now.{Now}
-use Rattle.facet_json.proofs.RootComes.{read-from, told-of, unread-from, within-from}
+use Rattle.facet_json.proofs.FirstRead.{first-value}
 use Rattle.facet_json.proofs.RunBegins.{ends-from, ends-within}
 use Rattle.facet_json.proofs.prefix.value_and_end.Goals as goal
 
-pub returns-in_err-value-clause-unread : goal.returns-in_err-value-clause-unread
-returns-in_err-value-clause-unread g c input mode is =
+pub returns-in_err-value-clause-value : goal.returns-in_err-value-clause-value
+returns-in_err-value-clause-value g c input mode is =
     let p = err_from_is_err_and c.from_residual.result c.from_residual.ensures.1 in
-    rw (p.1, p.2) (unread-from _ _ _ _ is (refusal_of c.in_err-value.field-0.0) c.in_err-value.ensures.unread)
+    let e = c.in_err-value.ensures in
+    rw (p.1, p.2) (first-value _ _ _ _ _ c.read_owned.ensures.keeps input mode is (Err c.in_err-value.field-0.0) tt e.unread (λ is. tt) tt e.within e.tells)
 
-pub returns-in_err-value-clause-within : goal.returns-in_err-value-clause-within
-returns-in_err-value-clause-within g c input mode is =
-    let p = err_from_is_err_and c.from_residual.result c.from_residual.ensures.1 in
-    rw (p.1, p.2) (within-from _ mode _ c.read_owned.new.parser is c.read_owned.ensures.keeps.input.buffer (refusal_of c.in_err-value.field-0.0) c.in_err-value.ensures.within)
-
-pub returns-in_err-value-clause-tells : goal.returns-in_err-value-clause-tells
-returns-in_err-value-clause-tells g c input mode is =
-    let p = err_from_is_err_and c.from_residual.result c.from_residual.ensures.1 in
-    rw (p.1, p.2) (told-of _ (lenient mode) _ c.read_owned.new.parser is c.read_owned.ensures.keeps (refusal_of c.in_err-value.field-0.0) c.in_err-value.ensures.tells)
-
-pub returns-clause-read : goal.returns-clause-read
-returns-clause-read g c input mode is = read-from _ _ _ _ is _ _ c.in_ok-value.ensures.read
-
-pub returns-clause-document : goal.returns-clause-document
-returns-clause-document g c input mode is whole = c.in_ok-value.ensures.document whole _ _ is
+pub returns-clause-value : goal.returns-clause-value
+returns-clause-value g c input mode is =
+    let e = c.in_ok-value.ensures in
+    first-value _ _ _ _ _ c.read_owned.ensures.keeps input mode is _ e.read tt e.document e.one_value tt tt
 
 pub returns-clause-end : goal.returns-clause-end
 returns-clause-end g c input mode small is =

@@ -1,4 +1,4 @@
 use Rattle.facet_json.proofs.reading.from_slice_borrowed.Goals as goal
 
-pub returns-clause-within : goal.returns-clause-within
-returns-clause-within g c = c.first_value.ensures.within _ _ c.new.ensures
+pub returns : goal.returns
+returns g c = c.first_value.ensures.value _ _ c.new.ensures

@@ -17,8 +17,8 @@ pub returns-in-Ok-clause-steps : goal.returns-in-Ok-clause-steps
 returns-in-Ok-clause-steps g c =
     let here = c.rest-rest.ensures in
     value c.in-Ok.value c.in-Ok.end (subst (λ left. BeginsWithRunTo left plain c.in-Ok.end) here c.in-Ok.ensures.end)
-    (subst (λ left. IsReadFrom g.T.Facet.shape.reading left plain (g.T.Facet.view c.in-Ok.value)) here c.in-Ok.ensures.read) c.in-Ok.ensures.owned
-    (λ (is : g.T.Facet.whole ≡ true). subst (λ left. BeginsWithDocument left plain) here (c.in-Ok.ensures.document is))
+    (subst (λ left. IsReadFrom g.T.Facet.shape.reading left plain (g.T.Facet.view c.in-Ok.value)) here c.in-Ok.ensures.value.read) c.in-Ok.ensures.owned
+    (λ (is : g.T.Facet.whole ≡ true). subst (λ left. BeginsWithDocument left plain) here (c.in-Ok.ensures.value.document is))
     (ap (λ d. after d c.in-Ok.end) c.self.view_is)
 
 pub returns-in-Err-clause-steps : goal.returns-in-Err-clause-steps
@@ -29,6 +29,6 @@ returns-in-Err-clause-steps g c =
     omega (arith, c.skip_gap.ensures.end, c.skip_gap.ensures.within, c.if-skip_gap-rest.false) in
     refused c.moved.result r (subst (λ left. past_gap left 0 plain < length left) here more)
     (c.moved.ensures ∙ ap (λ (d : Documents). moved d.at r) c.self.view_is)
-    (subst (λ left. IsUnreadFrom g.T.Facet.shape.reading left plain r) here c.in-Err.ensures.unread)
-    (subst (λ left. RefusalWithin left r) here c.in-Err.ensures.within)
-    (subst (λ left. IsToldOf left (lenient plain) r) here c.in-Err.ensures.tells) (ap read_up c.self.view_is)
+    (subst (λ left. IsUnreadFrom g.T.Facet.shape.reading left plain r) here c.in-Err.ensures.value.unread)
+    (subst (λ left. RefusalWithin left r) here c.in-Err.ensures.value.within)
+    (subst (λ left. IsToldOf left (lenient plain) r) here c.in-Err.ensures.value.tells) (ap read_up c.self.view_is)
