@@ -9,6 +9,11 @@ use facet_json_parser::JsonParser;
 use facet_json_serializer::{JsonSerializeError, JsonSerializer};
 use std::alloc::Global;
 
+/// The names of an account's fields.
+const NAMES: [&str; 10] = [
+    "id", "name", "email", "active", "age", "score", "visits", "city", "tags", "parent",
+];
+
 /// An account, as `{"id":7,"name":"Ann","email":"a@b.example","active":true,"age":40,"score":-3,"visits":12,"tags":["new"]}`.
 /// The city and the parent may be missing.
 #[derive(Drop)]
@@ -81,9 +86,7 @@ impl<'de> Facet<'de> for Account {
             alloc,
             parser,
             false,
-            &[
-                "id", "name", "email", "active", "age", "score", "visits", "city", "tags", "parent",
-            ],
+            &NAMES,
         )?;
         Ok(Account {
             id,
@@ -128,9 +131,7 @@ impl<'de> Facet<'de> for Account {
         );
         write_fields(
             serializer,
-            &[
-                "id", "name", "email", "active", "age", "score", "visits", "city", "tags", "parent",
-            ],
+            &NAMES,
             &fields,
         )
     }

@@ -21,23 +21,23 @@ fn ends_in_seven(tree: &Tree) -> bool {
 }
 
 /// Whether a list takes an item; or memory runs out.
-fn is_pushed(mut tree: Tree, before: &Tree) -> Option<bool> {
+fn is_pushed(tree: &mut Tree, before: &Tree) -> Option<bool> {
     match tree.push(Tree::U64(7)) {
-        Ok(()) => Some(ends_in_seven(&tree)),
-        Err(error) => is_refused(error, &tree, before),
+        Ok(()) => Some(ends_in_seven(tree)),
+        Err(error) => is_refused(error, tree, before),
     }
 }
 
 /// Whether an object takes a member; or memory runs out.
-fn is_inserted(alloc: Global, mut tree: Tree, key: &str, before: &Tree) -> Option<bool> {
+fn is_inserted(alloc: Global, tree: &mut Tree, key: &str, before: &Tree) -> Option<bool> {
     match tree.insert(alloc, key, Tree::U64(7)) {
         Ok(_) => Some(matches!(tree.get(key), Some(Tree::U64(7)))),
-        Err(error) => is_refused(error, &tree, before),
+        Err(error) => is_refused(error, tree, before),
     }
 }
 
 /// Whether a tree becomes `{"b":[true,null,[]]}` by that patch; or memory runs out, and it is as it was.
-fn is_merged(alloc: Global, mut tree: Tree, before: &Tree) -> Option<bool> {
+fn is_merged(alloc: Global, tree: &mut Tree, before: &Tree) -> Option<bool> {
     let Ok(patch) = object_once(alloc) else {
         return None;
     };
@@ -56,18 +56,18 @@ fn object_once(alloc: Global) -> Result<Tree, AllocError> {
 }
 
 /// Whether an object lends the member of this name, or a new one; or memory runs out.
-fn is_lent(alloc: Global, mut tree: Tree, key: &str, before: &Tree) -> Option<bool> {
+fn is_lent(alloc: Global, tree: &mut Tree, key: &str, before: &Tree) -> Option<bool> {
     match tree.get_or_insert(alloc, key, Tree::U64(7)) {
         Ok(lent) => Some(lent.is_same(before.get(key).unwrap_or(&Tree::U64(7)))),
-        Err(error) => is_refused(error, &tree, before),
+        Err(error) => is_refused(error, tree, before),
     }
 }
 
 /// Whether the first two members of a long object are those of the first name, in their order, once they are sorted; or memory runs
 /// out, and it is as it was.
-fn is_sorted(alloc: Global, mut tree: Tree, before: &Tree) -> Option<bool> {
+fn is_sorted(alloc: Global, tree: &mut Tree, before: &Tree) -> Option<bool> {
     match tree.sort_keys(alloc) {
-        Ok(()) => Some(begins_with_two_and_seven(&tree)),
+        Ok(()) => Some(begins_with_two_and_seven(tree)),
         Err(AllocError) if tree.is_same(before) => None,
         Err(AllocError) => Some(false),
     }
@@ -109,7 +109,7 @@ fn before(alloc: Global, change: Change) -> Option<Tree> {
 }
 
 /// Whether the tree is changed so; or memory runs out.
-fn is_changed(alloc: Global, tree: Tree, change: Change, before: &Tree) -> Option<bool> {
+fn is_changed(alloc: Global, tree: &mut Tree, change: Change, before: &Tree) -> Option<bool> {
     match change {
         Change::First | Change::Push => is_pushed(tree, before),
         Change::Insert(key) => is_inserted(alloc, tree, key, before),
@@ -123,7 +123,7 @@ fn is_changed(alloc: Global, tree: Tree, change: Change, before: &Tree) -> Optio
 fn changes(alloc: Global, change: Change) -> Option<bool> {
     let before = before(alloc, change)?;
     match before.clone(alloc) {
-        Ok(tree) => is_changed(alloc, tree, change, &before),
+        Ok(mut tree) => is_changed(alloc, &mut tree, change, &before),
         Err(AllocError) => None,
     }
 }

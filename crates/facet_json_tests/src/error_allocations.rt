@@ -124,7 +124,7 @@ fn twice_in(alloc: Global, source: &str) -> Result<JsonError, AllocError> {
 }
 
 /// Whether it is that error, with this source.
-fn is_twice_in(error: &JsonError, source: &str) -> bool {
+fn is_twice_in(error: JsonError, source: &str) -> bool {
     let kind = match &error.kind {
         JsonErrorKind::DuplicateKey { key } => key.as_str() == "a",
         _ => false,
@@ -142,9 +142,9 @@ fn gets_source(alloc: Global) -> Option<bool> {
         return None;
     };
     match error.with_source(alloc, "[1]") {
-        Ok(error) => Some(is_twice_in(&error, "[1]")),
+        Ok(error) => Some(is_twice_in(error, "[1]")),
         Err(error) => {
-            if is_twice_in(&error, "{}") {
+            if is_twice_in(error, "{}") {
                 None
             } else {
                 Some(false)

@@ -154,6 +154,10 @@ pub fn expect_told(rt: &impl Abort, alloc: Global, rows: &[Row]) {
 }
 
 /// Whether the error is reported so.
-pub fn is_reported(alloc: Global, error: &JsonError, source: &str, text: &str) -> bool {
-    is_displayed(alloc, &Report { error, source }, text)
+pub fn is_reported(alloc: Global, error: JsonError, source: &str, text: &str) -> bool {
+    let report = Report {
+        error: &error,
+        source,
+    };
+    is_displayed(alloc, &report, text)
 }

@@ -127,7 +127,7 @@ pub static PAST_ASCII: [Row; 20] = [
 fn is_shown(alloc: Global, kind: JsonErrorKind, text: &str) -> bool {
     let error = JsonError::new(kind, Span::new(1, 1));
     match format!(in alloc; "{text} at line 1, column 2\n[x]\n ^") {
-        Ok(shown) => is_reported(alloc, &error, "[x]", shown.as_str()),
+        Ok(shown) => is_reported(alloc, error, "[x]", shown.as_str()),
         Err(_) => false,
     }
 }

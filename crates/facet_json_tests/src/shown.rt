@@ -178,9 +178,9 @@ static ROWS: [Row; 19] = [
 fn refusals_are_reported(rt: HostRuntime) {
     let alloc = rt.alloc();
     for row in &ROWS {
-        assert!(rt; is_reported(alloc, &error_of(row), row.source, row.shown));
+        assert!(rt; is_reported(alloc, error_of(row), row.source, row.shown));
     }
     let error = JsonError::from(JsonSerializeError::NoListToEnd);
     let text = "end_seq called without matching begin_seq";
-    assert!(rt; is_reported(alloc, &error, "[1]", text));
+    assert!(rt; is_reported(alloc, error, "[1]", text));
 }
