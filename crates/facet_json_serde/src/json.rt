@@ -145,7 +145,6 @@ fn passes<'de, W: Wanted<'de>>(parser: &mut JsonParser<'de>) -> bool {
 }
 
 /// Passes a scalar, where a few bytes decide that it comes. Else nothing changes.
-#[inline(always)]
 fn passes_scalar<'de>(parser: &mut JsonParser<'de>) -> bool {
     passes::<&'de str>(parser) || passes::<Whole>(parser) || passes::<bool>(parser)
 }
@@ -362,6 +361,7 @@ impl<'de> Json<'de> {
                 self.last = event.0.span;
                 Ok(event)
             }
+            // One is ahead, as was seen above.
             None => Err(self.error(ReadFaultKind::Ended)),
         }
     }
