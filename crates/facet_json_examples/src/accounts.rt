@@ -82,12 +82,7 @@ impl<'de> Facet<'de> for Account {
                     ),
                 ),
             ),
-        ) = read_fields(
-            alloc,
-            parser,
-            false,
-            &NAMES,
-        )?;
+        ) = read_fields(alloc, parser, false, &NAMES)?;
         Ok(Account {
             id,
             name,
@@ -129,11 +124,7 @@ impl<'de> Facet<'de> for Account {
                 ),
             ),
         );
-        write_fields(
-            serializer,
-            &NAMES,
-            &fields,
-        )
+        write_fields(serializer, &NAMES, &fields)
     }
 
     ghost laws = { account-laws };

@@ -1,10 +1,10 @@
 -- What is read by hand.
-use Rattle.std.specs.Prelude.{ℕ, List, None}
+use Rattle.std.specs.Prelude.{◌≡◌, ℕ, List, None}
 use Rattle.facet_format.specs.Event.{Event as ParserEvent}
 use Rattle.facet_json_document.specs.Now.{Now}
 use Rattle.facet_json_document.specs.Next.{PassesNext}
 use Rattle.serde.specs.Event.{Event, unsigned, seq_begins, seq_ends}
-use Rattle.serde.specs.Steps.{Gives, Stays}
+use Rattle.serde.specs.Steps.{Gives, Stays, format_of}
 use Rattle.serde.specs.declared.deserializer.Deserializer.{Deserializer}
 use Rattle.facet_json_serde.specs.Ahead.{IsListBegin, IsUnsigned}
 use Rattle.facet_json_serde_tests.specs.declared.figures.Figure.{Figure}
@@ -30,6 +30,10 @@ PassesPair now low high =
 abbrev pub GivesFigure : {F E M : Type 0} → (F → List ℕ → Event → F → Type 0) → (F → F → Type 0) → Deserializer F E M → Figure → Deserializer F E M → Type 0
 GivesFigure {F} {E} {M} gives stays old (Percent p) new = (looked : Deserializer F E M) × Stays stays old looked × Gives gives looked (unsigned p.0) new
 GivesFigure {F} {E} {M} gives stays old (Range r) new = (looked : Deserializer F E M) × Stays stays old looked × GivesPair gives stays looked r.low r.high new
+
+-- The same from where a format stood.
+abbrev pub ReadsFigure : {F : Type 0} → (E M : Type 0) → (F → List ℕ → Event → F → Type 0) → (F → F → Type 0) → F → Figure → Type 0
+ReadsFigure {F} E M gives stays format f = (old new : Deserializer F E M) × (format_of old ≡ format) × GivesFigure gives stays old f new
 
 -- Its events came next, in a parser of JSON.
 abbrev pub PassesFigure : Now → Figure → Type 0

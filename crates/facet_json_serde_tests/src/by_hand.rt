@@ -3,7 +3,7 @@
 ghost use Rattle.std.specs.Prelude.{◌≤◌, IfOk};
 ghost use Rattle.serde.specs.Event.{unsigned};
 ghost use Rattle.serde.specs.Steps.{Gives};
-ghost use Rattle.facet_json_serde_tests.specs.ByHand.{GivesFigure, GivesPair, PassesFigure};
+ghost use Rattle.facet_json_serde_tests.specs.ByHand.{GivesFigure, GivesPair, PassesFigure, ReadsFigure};
 
 use crate::figures::{Figure, Percent, Range};
 use facet_json_serde::{Json, JsonParser, ReadFault};
@@ -73,5 +73,16 @@ pub fn read_figure<'de>(
     ensures { IfOk result (λ f. PassesFigure parser.entry f) }
 {
     let mut json = Json::new(alloc, parser);
-    Figure::deserialize(alloc, &mut Deserializer::new(input, &mut json))
+    read_by(alloc, input, &mut json)
+}
+
+/// Reads a figure by any format.
+fn read_by<'de, F: Format>(
+    alloc: Global,
+    input: &'de [u8],
+    format: &mut F,
+) -> Result<Figure, F::Error>
+    ensures { IfOk result (ReadsFigure F.Error F.Mark F.gives F.stays format.old) }
+{
+    Figure::deserialize(alloc, &mut Deserializer::new(input, format))
 }

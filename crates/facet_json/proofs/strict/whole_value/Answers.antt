@@ -23,7 +23,7 @@ returns-in_err-pass_end-clause-value g c input is =
     let all = keeps-then _ _ _ keeps (goes-keeps _ _ c.pass_end.ensures.onward) in
     let e = c.in_err-pass_end.ensures in
     let unread = left-unread_strictly g.T.Facet.shape.reading input c.args.parser.now is (g.T.Facet.view c.in_ok-value.value) c.read_owned.new.parser
-      c.in_ok-value.ensures.read e.only (refusal_of c.in_err-pass_end.field-0.0) in
+    c.in_ok-value.ensures.read e.only (refusal_of c.in_err-pass_end.field-0.0) in
     rw (p.1, p.2) (strictly-refused _ _ _ _ _ all input is c.in_err-pass_end.field-0.0 unread e.within (tells-later (keeps-there keeps) e.tells))
 
 pub returns-clause-value : goal.returns-clause-value
