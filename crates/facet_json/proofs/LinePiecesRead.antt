@@ -16,6 +16,11 @@ pub grows-nothing : (a b : Option (List ℕ)) (before after : List ℕ) → afte
 grows-nothing a b before after same kept =
     ([], same ∙ sym (append-nil before), All-nil (λ x. x ≢ 10), Consumes-kept a a b [] (Consumes-nil a) kept)
 
+-- So much of what is shown was appended and passed.
+pub grows-shown : (a b : Option (List ℕ)) (before after shown : List ℕ) (n : ℕ) → after ≡ before ++ take n shown → All (λ x. x ≢ 10) (take n shown)
+    → Consumes a b (take n shown) → LineGrows [] a b before after
+grows-shown a b before after shown n same all passed = (take n shown, same, all, subst (Consumes a b) (sym (append-nil (take n shown))) passed)
+
 -- A text grew twice.
 pub grows-then : (more : List ℕ) (a b c : Option (List ℕ)) (t u v : List ℕ) → LineGrows [] a b t u → LineGrows more b c u v → LineGrows more a c t v
 grows-then more a b c t u v p q = (
