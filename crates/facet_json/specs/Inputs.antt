@@ -60,7 +60,7 @@ pub record IsToldOf (input : List ℕ) (language : Language) (refusal : Refusal)
   pub came : ComesTo (fresh_in input language) last
   pub tells : TellsRefusal (fresh_in input language) last refusal
 
--- What a call answers that reads the value which an input begins with; of a type whose values are whole documents, `whole` is true.
+-- What a call answers that reads the value which an input begins with. Of a type that is read only where there is a document, `whole` is true.
 pub record FirstValue {V A : Type 0} (reading : List ℕ → Node → Option V) (whole : Bool) (view : A → V) (input : List ℕ) (mode : Mode)
     (result : Result A DeserializeError) : Type 0 where
   pub read : IfOk result (λ v. IsReadFrom reading input mode (view v))

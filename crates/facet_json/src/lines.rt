@@ -1,13 +1,8 @@
 //! JSON lines: a reader's bytes line by line, a value a line.
 
 ghost use Rattle.std.specs.Option.{option_map};
-ghost use Rattle.facet_format.specs.Views.{refusal_of};
 ghost use Rattle.std.specs.Prelude.{◌≡◌, ◌≢◌, ◌↔◌, ◌^◌, ◌<◌, ◌≤◌, ℕ, [], ◌∷◌, All, length, true, false, None, IsTrue, OnOk, OnErr, IfErr, IfOk, IfSome};
 ghost use Rattle.facet_json_token.specs.Gap.{plain};
-ghost use Rattle.facet_json_document.specs.Language.{lenient, strict};
-ghost use Rattle.facet_json_document.specs.OneRun.{IsOneRun};
-ghost use Rattle.facet_json_document.specs.StrictDocument.{IsStrict};
-ghost use Rattle.facet_json_document.specs.UnreadLaws.{RefusalWithin};
 ghost use Rattle.facet_json.specs.Inputs.{FirstValue, StrictValue};
 ghost use Rattle.facet_json.specs.Lines.{lines, IsBlank, ComeFirst, PassesLines, GivesLine, HasNoLine};
 ghost use Rattle.facet_json.specs.LineViews.{line_message, IsNext, TellsLine, IsReadFailure};

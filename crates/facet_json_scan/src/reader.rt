@@ -4,7 +4,8 @@ ghost use Rattle.std.specs.Prelude.{◌≡◌, ◌||◌, ℕ, ◌+◌, ◌<◌, 
 ghost use Rattle.std.specs.Io.KnownBytes.{Consumes, IsAtEnd};
 ghost use Rattle.facet_json_scan.specs.Scanner.{idle};
 ghost use Rattle.facet_json_scan.specs.ScannerViews.{answered};
-ghost use Rattle.facet_json_scan.specs.Listed.{mode_with, AreTokensOf, StandWithin, is_io};
+ghost use Rattle.std.specs.List.{All};
+ghost use Rattle.facet_json_scan.specs.Listed.{mode_with, tokens_of_list, rest_after, AreAllOf, AreTokensOf, StandsWithin, StandWithin, ScanRefusalWithin, is_io};
 ghost use Rattle.facet_json_scan.specs.Inner.Stands.{is_cut, Stands, IsScanned, IsFinished};
 
 use crate::answer::{ScanReadError, Scanned};
@@ -51,23 +52,48 @@ pub fn scan_reader<R: ByteSource>(
     let mut buf = Vec::new(alloc);
     let mut tokens = Vec::new(alloc);
     let mut scanner = scanner_of(comments);
+    let refusal = scan_pieces(
+        source,
+        piece.as_mut_slice(),
+        &mut scanner,
+        &mut buf,
+        &mut tokens,
+    )?;
+    Ok(Scanned {
+        buf,
+        tokens,
+        refusal,
+    })
+}
+
+/// Reads and scans piece by piece, up to the first refusal, which it gives, or to the end.
+fn scan_pieces<R: ByteSource>(
+    source: &mut R,
+    piece: &mut [u8],
+    scanner: &mut Scanner,
+    buf: &mut Vec<u8>,
+    tokens: &mut Vec<SpannedToken>,
+) -> Result<Option<ScanError>, ScanReadError>
+    requires room { 0 < length piece.old }
+    requires stands { Stands buf.old.items tokens.old.items scanner.old }
+    requires first { buf.old.items ≡ [] }
+    ensures tokens { IfOk result (λ refusal. IfSome (R.left source.old) (λ input.
+        AreAllOf input scanner.old.mode (tokens_of_list tokens.new.items (rest_after refusal)))) }
+    ensures so_far { IfOk result (λ refusal. AreAllOf buf.new.items scanner.old.mode (tokens_of_list tokens.new.items (rest_after refusal))) }
+    ensures within { IfOk result (λ refusal. All (StandsWithin (length buf.new.items)) tokens.new.items × ScanRefusalWithin (length buf.new.items) refusal) }
+    ensures buffer { IfOk result (λ refusal. Consumes (R.left source.old) (R.left source.new) buf.new.items) }
+    ensures read { IfOk result (λ refusal. IfNone refusal
+        ((R.ended source.new ≡ true) × IfSome (R.left source.old) (λ input. buf.new.items ≡ input))) }
+    ensures only { R.failed source.new ≡ (is_io result || R.failed source.old) }
+{
     loop {
-        let refusal = scan_ahead(buf.as_slice(), &mut scanner, &mut tokens)?;
+        let refusal = scan_ahead(buf.as_slice(), scanner, tokens)?;
         if refusal.is_some() {
-            return Ok(Scanned {
-                buf,
-                tokens,
-                refusal,
-            });
+            return Ok(refusal);
         }
-        let count = read_piece(source, piece.as_mut_slice(), &mut buf)?;
+        let count = read_piece(source, piece, buf)?;
         if count == 0 {
-            let refusal = finish(buf.as_slice(), &mut scanner, &mut tokens)?;
-            return Ok(Scanned {
-                buf,
-                tokens,
-                refusal,
-            });
+            return finish(buf.as_slice(), scanner, tokens);
         }
     }
 }

@@ -1,16 +1,14 @@
 //! Nodes of events.
 
-ghost use Rattle.std.specs.Prelude.{◌≡◌, ◌<◌, ◌⊎◌, ℕ, Err, true, false, Ok, Option, None, Some, IfOk, IfErr, IfSome, OnOk, MatchResult, length, reverse, set};
+ghost use Rattle.std.specs.Prelude.{◌≡◌, ◌<◌, ◌⊎◌, ℕ, List, Err, true, false, Ok, Option, None, Some, IfOk, IfErr, IfSome, OnOk, MatchResult, length, reverse, set, slice_get};
 ghost use Rattle.facet_format.specs.Complaint.{no_memory};
 ghost use Rattle.facet_format.specs.Cursor.{event, next};
 ghost use Rattle.facet_format.specs.Span.{Span as SpecSpan};
-ghost use Rattle.facet_format.specs.Views.{refusal_of, event_kind_of, span_of};
-ghost use Rattle.std.specs.Prelude.{List, slice_get};
+ghost use Rattle.facet_format.specs.Views.{refusal_of, event_kind_of, scalar_value_of, span_of};
 ghost use Rattle.facet_json_layout.specs.Inner.Held.{FindsHeld};
 ghost use Rattle.std.specs.Option.{unwrap_or};
 ghost use Rattle.facet_format.specs.Event.{bytes_of};
 ghost use Rattle.facet_format.specs.HeldText.{text_of};
-ghost use Rattle.facet_format.specs.Views.{scalar_value_of};
 ghost use Rattle.facet_format.specs.declared.event.ScalarValue.{ScalarValue as RustScalar};
 ghost use Rattle.facet_json_core.specs.Told.{tree_of_scalar};
 ghost use Rattle.facet_json_layout.specs.Inner.Building.{added, also, begun, closed, container, ended, built_view, none_yet, AddsNext, AddsAll, LeavesRoom, IsTooDeep, RefusesNext};
