@@ -18,8 +18,15 @@ use std::marker::Model;
 
 /// The text of a number with a fraction or an exponent, as it stands (RFC 8259, section 6, leniently): runs of digits
 /// may be empty, but a digit stands before any exponent mark, and one after it. Two are equal where their texts are.
-#[derive(Debug, Drop)]
+#[derive(Debug)]
 pub struct Decimal<'a>(CowStr<'a>);
+
+/// By a call, so that a proof about a function that owns a decimal need not take it apart.
+impl Drop for Decimal<'_> {
+    fn drop(self) {
+        let Decimal(_) = self;
+    }
+}
 
 impl<'a> Model for Decimal<'a> {
     ghost use Rattle.std.specs.Prelude.{◌≡◌, Some};
@@ -108,7 +115,8 @@ impl<'a> Decimal<'a> {
         ensures { MatchResult result (λ d. d ≡ owned (bytes_of self.entry))
             (λ d. (d ≡ self.entry) × (is_owned self.entry ≡ false)) }
     {
-        match self.0 {
+        let Decimal(text) = self;
+        match text {
             CowStr::Owned(text) => Ok(Decimal(CowStr::Owned(text))),
             CowStr::Borrowed(text) => match String::from_str(alloc, text) {
                 Ok(owned) => Ok(Decimal(CowStr::Owned(owned))),
