@@ -2,7 +2,7 @@
 
 use facet_json_serde::{Error, from_str, to_string};
 use serde::{Deserialize, Serialize};
-use std::alloc::Global;
+use std::alloc::{AllocError, Global};
 use std::process::Abort;
 use std::test::Fail;
 
@@ -16,17 +16,30 @@ pub(crate) fn expect<'de, T: Deserialize<'de> + Serialize>(
     cases: &[Case<'de>],
 ) -> Result<(), Fail> {
     for (input, expected) in cases {
-        assert_eq!(rt; again::<T>(alloc, *input)?.as_str(), *expected);
+        let text = told(alloc, rewritten::<T>(alloc, *input), *input);
+        expect_text(rt, text, *expected)?;
     }
     Ok(())
 }
 
-/// The text of the value that the input is read as, or the error with its place in the input.
-fn again<'de, T: Deserialize<'de> + Serialize>(
+/// Fails where the text isn't that.
+pub(crate) fn expect_text(
+    rt: &impl Abort,
+    text: Result<String, AllocError>,
+    expected: &str,
+) -> Result<(), Fail> {
+    let text = text?;
+    assert_eq!(rt; text.as_str(), expected);
+    Ok(())
+}
+
+/// The text, or the error with its place in the input.
+pub(crate) fn told(
     alloc: Global,
-    input: &'de str,
-) -> Result<String, Fail> {
-    match rewritten::<T>(alloc, input) {
+    answer: Result<String, Error<'static>>,
+    input: &str,
+) -> Result<String, AllocError> {
+    match answer {
         Ok(text) => Ok(text),
         Err(error) => shown(alloc, error, input),
     }
@@ -37,11 +50,29 @@ pub(crate) fn rewritten<'t, 'de, T: Deserialize<'de> + Serialize>(
     alloc: Global,
     input: &'de str,
 ) -> Result<String, Error<'t>> {
-    let value: T = from_str(alloc, input)?;
-    to_string(alloc, &value)
+    written::<T>(alloc, from_str(alloc, input))
+}
+
+/// The text of the value.
+pub(crate) fn written<'t, T: Serialize + Drop>(
+    alloc: Global,
+    read: Result<T, Error<'t>>,
+) -> Result<String, Error<'t>> {
+    match read {
+        Ok(value) => to_string(alloc, &value),
+        Err(error) => Err(error),
+    }
 }
 
 /// The error with its place in the input.
-pub(crate) fn shown(alloc: Global, error: Error<'static>, input: &str) -> Result<String, Fail> {
-    Ok(format!(in alloc; "{}", error.report(input))?)
+fn shown(alloc: Global, error: Error<'static>, input: &str) -> Result<String, AllocError> {
+    format!(in alloc; "{}", error.report(input))
+}
+
+/// Whether these bytes came.
+pub(crate) fn are_bytes<E: Drop>(answer: Result<Vec<u8>, E>, wanted: &[u8]) -> bool {
+    match answer {
+        Ok(bytes) => bytes.as_slice() == wanted,
+        Err(_) => false,
+    }
 }

@@ -9,34 +9,30 @@ use facet_json_serde::{DeserializeErrorKind, Error, ErrorKind};
 use serde::{Deserialize, Serialize};
 use std::alloc::Global;
 
+/// Whether this is the text that is wanted, or no answer where an allocation failed.
+fn is_text(answer: Result<String, Error<'static>>, wanted: &str) -> Option<bool> {
+    match answer {
+        Ok(text) => Some(text.as_str() == wanted),
+        Err(error) => refused(error.kind),
+    }
+}
+
 /// No answer where an allocation failed, and else a wrong one.
-fn refused(error: &Error<'_>) -> Option<bool> {
-    match error.kind {
+fn refused(kind: ErrorKind<'static>) -> Option<bool> {
+    match kind {
         ErrorKind::Read(DeserializeErrorKind::OutOfMemory) => None,
         _ => Some(false),
     }
 }
 
-/// Whether the value that the text is read as is written so.
-fn comes_back<'de, T: Deserialize<'de> + Serialize>(
-    alloc: Global,
-    text: &'de str,
-    written: &str,
-) -> Option<bool> {
-    match &rewritten::<T>(alloc, text) {
-        Ok(again) => Some(again.as_str() == written),
-        Err(error) => refused(error),
-    }
-}
-
-/// The same twice, but for one time at most in which memory ran out.
+/// Whether the value that the text is read as is written so, two times but for one at most in which memory ran out.
 fn comes_back_but_once<'de, T: Deserialize<'de> + Serialize>(
     alloc: Global,
     text: &'de str,
     written: &str,
 ) -> bool {
-    let first = comes_back::<T>(alloc, text, written);
-    let again = comes_back::<T>(alloc, text, written);
+    let first = is_text(rewritten::<T>(alloc, text), written);
+    let again = is_text(rewritten::<T>(alloc, text), written);
     first.unwrap_or(true) && again.unwrap_or(true) && (first.is_some() || again.is_some())
 }
 

@@ -1,7 +1,8 @@
 //! Generated texts, read and written by the toolchain's `serde_json` and by this library: each reads what the other one has written.
 
 use serde_json::Value;
-use std::alloc::Global;
+use std::alloc::{AllocError, Global};
+use std::process::Abort;
 use std::test::Fail;
 
 /// Contents of strings.
@@ -31,26 +32,34 @@ fn content(seed: &mut u64) -> &'static str {
 }
 
 /// A text with a value of each kind.
-fn sample(alloc: Global, seed: &mut u64) -> Result<String, Fail> {
+fn sample(alloc: Global, seed: &mut u64) -> Result<String, AllocError> {
     let (id, ratio, power) = (next(seed), next(seed), next(seed) % 290);
     let (name, key, tag) = (content(seed), content(seed), content(seed));
     let scale = if ratio % 2 == 0 { "" } else { "-" };
-    Ok(format!(in alloc;
+    format!(in alloc;
         "{{\"id\":{scale}{id},\"ratio\":{scale}{ratio}.{id}e{scale}{power},\"name\":\"{name}{tag}\",\"k{key}\":[null,true,[],{{}},\"{tag}\"]}}"
-    )?)
+    )
+}
+
+/// Whether the value that was read is that one.
+fn is_same(read: Value, value: &Value) -> bool {
+    read == *value
 }
 
 /// Whether this library reads the text as that value.
 fn is_ours(alloc: Global, text: &str, value: &Value) -> Result<bool, Fail> {
-    let read: Value = facet_json_serde::from_str(alloc, text)?;
-    Ok(read == *value)
+    Ok(is_same(facet_json_serde::from_str(alloc, text)?, value))
+}
+
+/// Whether `serde_json` reads the text as that value.
+fn is_theirs(alloc: Global, text: &str, value: &Value) -> Result<bool, Fail> {
+    Ok(is_same(serde_json::from_str(alloc, text)?, value))
 }
 
 /// Whether `serde_json` reads as that value what this library writes of it.
 fn is_theirs_again(alloc: Global, value: &Value) -> Result<bool, Fail> {
     let written = facet_json_serde::to_string(alloc, value)?;
-    let read: Value = serde_json::from_str(alloc, written.as_str())?;
-    Ok(read == *value)
+    is_theirs(alloc, written.as_str(), value)
 }
 
 /// Whether this library reads as that value what `serde_json` writes of it.
@@ -59,14 +68,20 @@ fn is_ours_again(alloc: Global, value: &Value) -> Result<bool, Fail> {
     is_ours(alloc, written.as_str(), value)
 }
 
-/// Whether both read the text as one value, and each what the other one writes of it.
-fn is_exchanged(alloc: Global, text: &str) -> Result<bool, Fail> {
-    let value: Value = serde_json::from_str(alloc, text)?;
+/// Whether this library reads the text as that value too, and each reads so what the other one writes of it.
+fn is_shared(alloc: Global, text: &str, value: &Value) -> Result<bool, Fail> {
     Ok(
-        is_ours(alloc, text, &value)?
-            && is_ours_again(alloc, &value)?
-            && is_theirs_again(alloc, &value)?,
+        is_ours(alloc, text, value)?
+            && is_ours_again(alloc, value)?
+            && is_theirs_again(alloc, value)?,
     )
+}
+
+/// Fails where the two do not read the text as one value, or each what the other one writes of it.
+fn exchange(rt: &impl Abort, alloc: Global, text: &str) -> Result<(), Fail> {
+    let value: Value = serde_json::from_str(alloc, text)?;
+    assert!(rt; is_shared(alloc, text, &value)?, "{text}");
+    Ok(())
 }
 
 #[test]
@@ -74,8 +89,7 @@ fn values_are_exchanged(rt: HostRuntime) -> Result<(), Fail> {
     let alloc = rt.alloc();
     let mut seed = 1;
     for _ in 0..300 {
-        let text = sample(alloc, &mut seed)?;
-        assert!(rt; is_exchanged(alloc, text.as_str())?, "{text}");
+        exchange(&rt, alloc, sample(alloc, &mut seed)?.as_str())?;
     }
     Ok(())
 }

@@ -1,78 +1,75 @@
 //! A parser and a writer that the caller holds.
 
+use crate::again::are_bytes;
 use crate::by_hand::read_figure;
 use crate::figures::Figure;
 use facet_json_serde::{Error, Json, JsonParser, JsonWriter, ReadFault, SerializeOptions};
 use serde::Serialize;
-use std::alloc::Global;
+use std::alloc::{AllocError, Global};
 
-/// A pair of bytes, with comments between them, and the end of the input.
-fn pair(input: &[u8], json: &mut Json<'_>) -> Result<(u8, u8), ReadFault> {
+/// A pair of bytes, and the end of the input.
+fn read_pair(input: &[u8], json: &mut Json<'_>) -> Result<(u8, u8), ReadFault> {
     let pair = json.value(input)?;
     json.finish_whole()?;
     Ok(pair)
 }
 
-#[test]
-fn a_parser_is_held(rt: HostRuntime) {
-    let alloc = rt.alloc();
-    let input = b"/* two */ [1, 2]\n".as_slice();
+/// The pair that the input is, whose values may have comments between them.
+fn pair(alloc: Global, input: &[u8]) -> Result<(u8, u8), Error<'static>> {
     let mut json = Json::new(alloc, JsonParser::new_jsonc(alloc, input));
-    assert!(rt; pair(input, &mut json).ok() == Some((1, 2)));
-}
-
-/// Whether the error is shown so.
-fn is_shown(alloc: Global, error: &Error<'static>, text: &str) -> bool {
-    match format!(in alloc; "{error}") {
-        Ok(shown) => shown.as_str() == text,
-        Err(_) => false,
+    match read_pair(input, &mut json) {
+        Ok(pair) => Ok(pair),
+        Err(fault) => Err(json.told(fault)),
     }
 }
 
-/// Whether the input is refused, and the fault told so.
-fn is_refused(alloc: Global, input: &[u8], json: &mut Json<'_>, text: &str) -> bool {
-    match pair(input, json) {
+#[test]
+fn a_parser_is_held(rt: HostRuntime) {
+    assert!(rt; pair(rt.alloc(), b"/* two */ [1, 2]\n").ok() == Some((1, 2)));
+}
+
+/// Whether the input was refused, and the fault is told so.
+fn is_refused(alloc: Global, answer: Result<(u8, u8), Error<'static>>, text: &str) -> bool {
+    match answer {
         Ok(_) => false,
-        Err(fault) => is_shown(alloc, &json.told(fault), text),
+        Err(error) => is_shown(format!(in alloc; "{error}"), text),
+    }
+}
+
+/// Whether the text is this one.
+fn is_shown(shown: Result<String, AllocError>, text: &str) -> bool {
+    match shown {
+        Ok(shown) => shown.as_str() == text,
+        Err(_) => false,
     }
 }
 
 #[test]
 fn a_fault_is_told(rt: HostRuntime) {
     let alloc = rt.alloc();
-    let input = b"[1, 2] [".as_slice();
-    let mut json = Json::new(alloc, JsonParser::new_jsonc(alloc, input));
-    assert!(rt; is_refused(alloc, input, &mut json, "trailing characters"));
+    assert!(rt; is_refused(alloc, pair(alloc, b"[1, 2] ["), "trailing characters"));
 }
 
-/// Whether a pair is written.
-fn takes_pair(writer: &mut JsonWriter<'_>) -> bool {
-    (1u8, "x").serialize(writer).is_ok()
+/// Whether the writer takes the value.
+fn takes<T: Serialize>(writer: &mut JsonWriter<'_>, value: &T) -> bool {
+    value.serialize(writer).is_ok()
 }
 
 #[test]
 fn a_writer_keeps_its_fault(rt: HostRuntime) {
     let options = SerializeOptions::new().bytes_as_hex();
     let mut writer = JsonWriter::new(rt.alloc(), options);
-    assert!(rt; takes_pair(&mut writer));
-    assert!(rt; 7u8.serialize(&mut writer).is_err());
+    assert!(rt; takes(&mut writer, &(1u8, "x")));
+    assert!(rt; !takes(&mut writer, &7u8));
     assert!(rt; writer.finish(&options).is_err());
-}
-
-/// Whether this was written.
-fn is_text<E: Drop>(written: Result<Vec<u8>, E>, text: &[u8]) -> bool {
-    match written {
-        Ok(written) => written.as_slice() == text,
-        Err(_) => false,
-    }
 }
 
 #[test]
 fn a_writer_gives_its_text(rt: HostRuntime) {
     let options = SerializeOptions::new().bytes_as_hex();
     let mut writer = JsonWriter::new(rt.alloc(), options);
-    assert!(rt; takes_pair(&mut writer));
-    assert!(rt; is_text(writer.finish(&options), br#"[1,"x"]"#));
+    assert!(rt; takes(&mut writer, &(1u8, "x")));
+    assert!(rt; are_bytes(writer.finish(&options), br#"[1,"x"]"#));
 }
 
 /// The part of a hundred that the input has.

@@ -1,5 +1,6 @@
 //! Readers and writers that give and take a few bytes at a time, and fail at each call in turn.
 
+use crate::again::are_bytes;
 use facet_json_serde::{StreamError, from_reader, to_writer};
 use std::alloc::Global;
 use std::io;
@@ -86,35 +87,27 @@ fn write(alloc: Global, fails_at: usize) -> (Result<(), StreamError<'static>>, V
     (answer, bytes)
 }
 
-/// Whether the list is the text's.
-fn is_list(answer: Result<Vec<u8>, StreamError<'_>>) -> bool {
-    match answer {
-        Ok(list) => list.as_slice() == [1u8, 20, 3].as_slice(),
-        Err(_) => false,
-    }
-}
-
 #[test]
 fn a_read_fails_in_turn(rt: HostRuntime) {
     let alloc = rt.alloc();
     for at in 0..4 {
         assert!(rt; has_failed(read(alloc, at)), "at {at}");
     }
-    assert!(rt; is_list(read(alloc, 4)));
+    assert!(rt; are_bytes(read(alloc, 4), &[1, 20, 3]));
 }
 
 /// Whether a write of the list ends as this write fails, and what came before it is taken.
 fn write_fails(alloc: Global, at: usize) -> bool {
     let (answer, taken) = write(alloc, at);
-    taken.len() == at.saturating_mul(3)
+    has_failed(answer)
+        && taken.len() == at.saturating_mul(3)
         && TEXT.as_bytes().starts_with(taken.as_slice())
-        && has_failed(answer)
 }
 
 /// Whether the list is written where this write, which is not made, would fail.
 fn is_written(alloc: Global, at: usize) -> bool {
     let (answer, taken) = write(alloc, at);
-    taken.as_slice() == TEXT.as_bytes() && answer.is_ok()
+    answer.is_ok() && taken.as_slice() == TEXT.as_bytes()
 }
 
 #[test]

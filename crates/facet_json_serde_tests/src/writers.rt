@@ -1,5 +1,6 @@
 //! Writers by hand: what is not one value is refused, and nothing is given out.
 
+use crate::again::expect_text;
 use facet_json_serde::{
     Error, SerializeOptions, to_string, to_string_pretty, to_string_with_options,
 };
@@ -63,16 +64,12 @@ fn make<S: Serializer>(call: Call, out: &mut S) -> Result<(), S::Error> {
     }
 }
 
-/// What is written of these calls, or what the refusal says.
-fn told(alloc: Global, calls: &'static [Call]) -> Result<String, AllocError> {
-    match to_string(alloc, &Calls(calls)) {
+/// What was written, or what the refusal says.
+fn told(alloc: Global, answer: Result<String, Error<'static>>) -> Result<String, AllocError> {
+    match answer {
         Ok(text) => Ok(text),
-        Err(error) => shown(alloc, &error),
+        Err(error) => format!(in alloc; "{error}"),
     }
-}
-
-fn shown(alloc: Global, error: &Error<'static>) -> Result<String, AllocError> {
-    format!(in alloc; "{error}")
 }
 
 /// Calls that are not one value, and what the refusal says; at last, some that are.
@@ -107,7 +104,7 @@ static CALLS: [(&[Call], &str); 12] = [
 fn only_one_value_is_written(rt: HostRuntime) -> Result<(), Fail> {
     let alloc = rt.alloc();
     for (calls, said) in &CALLS {
-        assert_eq!(rt; told(alloc, *calls)?.as_str(), *said);
+        expect_text(&rt, told(alloc, to_string(alloc, &Calls(*calls))), *said)?;
     }
     Ok(())
 }
