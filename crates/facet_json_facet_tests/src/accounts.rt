@@ -4,55 +4,31 @@ use crate::typed::{comes_back, out_of_range, refuses};
 use facet_format::{DeserializeError, DeserializeErrorKind, Span};
 use facet_json::{from_slice, from_slice_borrowed};
 use facet_json_examples::accounts::Account;
-use std::alloc::{AllocError, Global};
+use std::alloc::Global;
 
-/// An account without a city and a parent.
-fn ann(alloc: Global, score: i32, age: u8) -> Result<Account, AllocError> {
-    Ok(Account {
-        id: 7,
-        name: String::from_str(alloc, "Ann")?,
-        email: String::from_str(alloc, "a@b.example")?,
-        active: true,
-        age,
-        score,
-        visits: 12,
-        city: None,
-        tags: Vec::new(alloc),
-        parent: None,
-    })
-}
-
-/// Whether each field of the one is that of the other.
-fn is_same(one: &Account, other: &Account) -> bool {
-    let is_one_person = one.id == other.id && one.name == other.name && one.email == other.email;
-    let are_numbers = one.age == other.age
-        && one.score == other.score
-        && one.visits == other.visits;
-    let are_others = one.active == other.active && one.city == other.city;
-    is_one_person
-        && are_numbers
-        && are_others
-        && one.tags == other.tags
-        && one.parent == other.parent
+/// Whether each field is Ann's, of this score and age: she has no city, no tags and no parent.
+fn is_ann(account: &Account, score: i32, age: u8) -> bool {
+    let is_named = account.id == 7
+        && account.name.as_str() == "Ann"
+        && account.email.as_str() == "a@b.example";
+    let are_numbers = account.age == age && account.score == score && account.visits == 12;
+    let are_others = account.active && account.city.is_none() && account.parent.is_none();
+    is_named && are_numbers && are_others && account.tags.is_empty()
 }
 
 /// Whether that account was read.
-fn is_wanted(answer: Result<Account, DeserializeError<'_>>, wanted: &Account) -> bool {
+fn is_wanted(answer: Result<Account, DeserializeError<'_>>, score: i32, age: u8) -> bool {
     match answer {
-        Ok(account) => is_same(&account, wanted),
+        Ok(account) => is_ann(&account, score, age),
         Err(_) => false,
     }
 }
 
 /// Whether the input is read as that account, borrowed or not.
 fn is_account(alloc: Global, input: &str, score: i32, age: u8) -> bool {
-    match ann(alloc, score, age) {
-        Ok(wanted) => {
-            is_wanted(from_slice(alloc, input.as_bytes()), &wanted)
-                && is_wanted(from_slice_borrowed(alloc, input.as_bytes()), &wanted)
-        }
-        Err(_) => false,
-    }
+    let bytes = input.as_bytes();
+    is_wanted(from_slice(alloc, bytes), score, age)
+        && is_wanted(from_slice_borrowed(alloc, bytes), score, age)
 }
 
 /// An account in the order of its fields.

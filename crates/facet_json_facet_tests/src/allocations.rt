@@ -2,15 +2,17 @@
 //! of their requests for memory, which is refused, and they have to pass in every such run. Each row is tried twice, its set-up too: as
 //! one request is refused in a run, memory runs out in one of the two at most, and the other gives the whole answer.
 
+use crate::document_pointers::is_of;
 use crate::document_texts::is_written as writes_document;
+use crate::typed::is_written;
 use facet_format::{DeserializeError, DeserializeErrorKind, FormatParser, ParseError, Span};
 use facet_json::scanner::Mode;
 use facet_json::steps::{FindError, begin_object, find_key, find_pointer};
 use facet_json::{
-    Document, Done, FormatOptions, LineError, Lines, Need, format_text, from_slice,
+    Document, Done, FormatOptions, Line, LineError, Lines, Need, format_text, from_slice,
     from_slice_borrowed, from_slice_borrowed_jsonc, from_slice_jsonc, from_slice_prefix,
     from_slice_strict, from_str, from_str_borrowed, from_str_borrowed_jsonc, from_str_jsonc,
-    from_str_prefix, from_str_strict, read_fields, to_vec, tree, tree_from_slice, write_fields,
+    from_str_prefix, from_str_strict, read_fields, to_vec, tree, write_fields,
 };
 use facet_json_core::RawJson;
 use facet_json_examples::accounts::Account;
@@ -28,7 +30,6 @@ fn but_once(first: Option<bool>, again: Option<bool>) -> bool {
 }
 
 /// A way to read a value of a type.
-#[derive(Clone, Copy)]
 enum Entry {
     /// `from_slice`
     Slice,
@@ -61,7 +62,6 @@ enum Entry {
 }
 
 /// Some of them.
-#[derive(Clone, Copy)]
 enum By {
     /// All
     Each,
@@ -94,7 +94,7 @@ static ENTRIES: [(Entry, &str); 14] = [
 ];
 
 /// Whether an entry is one of these.
-fn is_one(entry: Entry, by: By) -> bool {
+fn is_one(entry: &Entry, by: &By) -> bool {
     let borrows = matches!(
         entry,
         Entry::SliceBorrowed
@@ -139,15 +139,6 @@ fn is_want(error: &DeserializeError<'_>, row: &Row<'_>) -> bool {
     place && error.kind == DeserializeErrorKind::OutOfMemory
 }
 
-/// Whether this text was written.
-fn is_written(written: &Result<Vec<u8>, JsonSerializeError>, text: &str) -> Option<bool> {
-    match written {
-        Ok(written) => Some(written.as_slice() == text.as_bytes()),
-        Err(JsonSerializeError::OutOfMemory) => None,
-        Err(_) => Some(false),
-    }
-}
-
 /// Whether the row's refusal was given.
 fn is_refusal(error: DeserializeError<'_>, row: &Row<'_>) -> Option<bool> {
     if is_want(&error, row) {
@@ -162,7 +153,7 @@ fn is_refusal(error: DeserializeError<'_>, row: &Row<'_>) -> Option<bool> {
 /// Whether the value is written as the row's text.
 fn is_value<'de, T: Facet<'de>>(alloc: Global, value: &T, row: &Row<'_>) -> Option<bool> {
     match row.answer {
-        Ok(text) => is_written(&to_vec(alloc, value), text),
+        Ok(text) => is_written(to_vec(alloc, value), text),
         Err(_) => Some(false),
     }
 }
@@ -247,7 +238,7 @@ fn alone<'t, T: Drop>(
 /// What an entry function reads of the text. The type's own readers take a parser, and `reads` makes it.
 fn read_by<'t, 'de, T: Facet<'de>>(
     alloc: Global,
-    entry: Entry,
+    entry: &Entry,
     text: &'de str,
 ) -> Result<T, DeserializeError<'t>> {
     let bytes = text.as_bytes();
@@ -268,7 +259,7 @@ fn read_by<'t, 'de, T: Facet<'de>>(
 }
 
 /// Whether the entry gives the row's answer.
-fn reads<'de, T: Facet<'de>>(alloc: Global, entry: Entry, row: &Row<'de>) -> Option<bool> {
+fn reads<'de, T: Facet<'de>>(alloc: Global, entry: &Entry, row: &Row<'de>) -> Option<bool> {
     match entry {
         Entry::Owned => reads_itself::<T>(alloc, false, row),
         Entry::Borrowed => reads_itself::<T>(alloc, true, row),
@@ -277,7 +268,7 @@ fn reads<'de, T: Facet<'de>>(alloc: Global, entry: Entry, row: &Row<'de>) -> Opt
 }
 
 /// The same twice.
-fn is_read<'de, T: Facet<'de>>(alloc: Global, entry: Entry, row: &Row<'de>) -> bool {
+fn is_read<'de, T: Facet<'de>>(alloc: Global, entry: &Entry, row: &Row<'de>) -> bool {
     let first = reads::<T>(alloc, entry, row);
     but_once(first, reads::<T>(alloc, entry, row))
 }
@@ -286,7 +277,7 @@ fn is_read<'de, T: Facet<'de>>(alloc: Global, entry: Entry, row: &Row<'de>) -> b
 fn expect<'de, T: Facet<'de>>(rt: &impl Abort, alloc: Global, rows: &[Row<'de>]) {
     for row in rows {
         for (entry, name) in &ENTRIES {
-            let holds = !is_one(*entry, row.by) || is_read::<T>(alloc, *entry, row);
+            let holds = !is_one(entry, &row.by) || is_read::<T>(alloc, entry, row);
             assert!(rt; holds, "{name} of {}", row.input);
         }
     }
@@ -719,7 +710,7 @@ fn is_text_of_person<'de, N: Facet<'de>>(
     row: &Row<'_>,
 ) -> Option<bool> {
     match row.answer {
-        Ok(text) => is_written(&text_of_person(alloc, name, age), text),
+        Ok(text) => is_written(text_of_person(alloc, name, age), text),
         Err(_) => Some(false),
     }
 }
@@ -831,19 +822,13 @@ fn number_pointed<'t>(
     }
 }
 
-/// What is searched.
-#[derive(Clone, Copy)]
-enum Search {
-    Key,
-    Pointer,
-}
-
-/// Whether the search in the row's input gives its answer, and leaves the parser as it should.
-fn searches(alloc: Global, row: &Row<'_>, by: Search) -> Option<bool> {
+/// Whether the search in the row's input, by the pointer or by the key, gives its answer, and leaves the parser as it should.
+fn searches(alloc: Global, row: &Row<'_>, by_pointer: bool) -> Option<bool> {
     let mut parser = JsonParser::new(alloc, row.input.as_bytes());
-    let answer = match by {
-        Search::Key => number_at_ab(alloc, &mut parser),
-        Search::Pointer => number_pointed(alloc, &mut parser),
+    let answer = if by_pointer {
+        number_pointed(alloc, &mut parser)
+    } else {
+        number_at_ab(alloc, &mut parser)
     };
     if leaves(&answer, &mut parser) {
         is_answer(alloc, &answer, row)
@@ -852,23 +837,19 @@ fn searches(alloc: Global, row: &Row<'_>, by: Search) -> Option<bool> {
     }
 }
 
-/// The same, twice.
-fn is_searched(alloc: Global, row: &Row<'_>, by: Search) -> bool {
-    but_once(searches(alloc, row, by), searches(alloc, row, by))
+/// Fails where it does not, tried twice.
+fn expect_found(rt: &impl Abort, alloc: Global, rows: &[Row<'_>], by_pointer: bool) {
+    for row in rows {
+        let first = searches(alloc, row, by_pointer);
+        let holds = but_once(first, searches(alloc, row, by_pointer));
+        assert!(rt; holds, "{}", row.input);
+    }
 }
 
 #[test]
 fn a_growth_is_refused_in_a_search(rt: HostRuntime) {
-    for row in &SEARCHES {
-        assert!(rt; is_searched(rt.alloc(), row, Search::Key), "{}", row.input);
-    }
-    for row in &POINTED {
-        assert!(rt;
-            is_searched(rt.alloc(), row, Search::Pointer),
-            "{}",
-            row.input
-        );
-    }
+    expect_found(&rt, rt.alloc(), &SEARCHES, false);
+    expect_found(&rt, rt.alloc(), &POINTED, true);
 }
 
 /// The sum of the numbers that are lines, where a call that is refused memory is made again.
@@ -876,7 +857,7 @@ fn sum_of_lines(alloc: Global) -> Option<u64> {
     let mut lines = Lines::new(alloc, "1\n20 \n[]\n\n123456789\n300".as_bytes(), 8);
     let mut sum: u64 = 0;
     for _ in 0..9 {
-        match next_number(alloc, &mut lines) {
+        match number_of(alloc, lines.next_line()) {
             Next::Number(number) => sum = sum.saturating_add(number),
             Next::End => return Some(sum),
             Next::Failure => return None,
@@ -895,9 +876,9 @@ enum Next {
     Failure,
 }
 
-/// Asks for the next line.
-fn next_number(alloc: Global, lines: &mut Lines<&[u8]>) -> Next {
-    match &lines.next_line() {
+/// What its answer is.
+fn number_of(alloc: Global, answer: Result<Option<Line<'_>>, LineError>) -> Next {
+    match answer {
         Ok(Some(line)) => Next::Number(line.value(alloc).unwrap_or(0)),
         Ok(None) => Next::End,
         Err(LineError::TooLong { .. } | LineError::Memory) => Next::Number(0),
@@ -920,11 +901,16 @@ fn made_object(alloc: Global) -> Result<Tree, AllocError> {
     tree!(in alloc; {"c": 1u8, "d": {}})
 }
 
+/// An object of a list that is lent this tree, an object of this name, and the tree itself.
+fn made_with(alloc: Global, name: &str, lent: Tree) -> Result<Tree, AllocError> {
+    let list = made_list(alloc, &lent)?;
+    tree!(in alloc; {"list": list, (name): made_object(alloc)?, "tree": lent})
+}
+
 /// A tree in which each part that takes memory stands in a list and in an object.
 fn made_tree(alloc: Global, name: &str) -> Result<Tree, AllocError> {
     let lent = tree!(in alloc; [name])?;
-    let list = made_list(alloc, &lent)?;
-    tree!(in alloc; {"list": list, (name): made_object(alloc)?, "tree": lent})
+    made_with(alloc, name, lent)
 }
 
 /// The text of it.
@@ -933,8 +919,8 @@ const MADE_TREE: &str =
 
 /// Whether the tree is made whole.
 fn is_made(alloc: Global) -> Option<bool> {
-    match &made_tree(alloc, "a") {
-        Ok(tree) => is_written(&to_vec(alloc, tree), MADE_TREE),
+    match made_tree(alloc, "a") {
+        Ok(tree) => is_written(to_vec(alloc, &tree), MADE_TREE),
         Err(_) => None,
     }
 }
@@ -955,7 +941,7 @@ const TO_LAY_OUT: (&str, &str) = (
 /// Whether it is laid out so, or memory ran out.
 fn lays_out(alloc: Global) -> Option<bool> {
     let (text, wanted) = TO_LAY_OUT;
-    match &format_text(alloc, text.as_bytes(), Mode::Jsonc, FormatOptions::new()) {
+    match format_text(alloc, text.as_bytes(), Mode::Jsonc, FormatOptions::new()) {
         Ok(found) => Some(found.as_slice() == wanted.as_bytes()),
         Err(error) if error.kind == DeserializeErrorKind::OutOfMemory => None,
         Err(_) => Some(false),
@@ -971,7 +957,7 @@ fn a_growth_is_refused_in_a_layout(rt: HostRuntime) {
 /// Whether a text with an escape, a container within another and a number past 64 bits is read into nodes, if memory suffices.
 fn is_in_nodes(alloc: Global) -> Option<bool> {
     let text = "[{\"\\u0061\":18446744073709551616},\"\\n\"]";
-    match &Document::parse(alloc, text.as_bytes()) {
+    match Document::parse(alloc, text.as_bytes()) {
         Ok(document) => Some(document.root().len() == Some(2)),
         Err(error) if error.kind == DeserializeErrorKind::OutOfMemory => None,
         Err(_) => Some(false),
@@ -986,15 +972,14 @@ fn a_growth_is_refused_in_a_document(rt: HostRuntime) {
 
 /// Whether the tree of a document's value is taken of its nodes, if memory suffices: texts, a number, and containers within others.
 fn is_taken(alloc: Global) -> Option<bool> {
-    let text = br#"[{"\u0061":18446744073709551616,"b":[1.5,[]]},"c"]"#;
+    let text = r#"[{"\u0061":18446744073709551616,"b":[1.5,[]]},"c"]"#;
     let taken = tree_in_nodes(alloc, text)?;
-    let wanted = tree_from_slice(alloc, text).ok()?;
-    Some(taken.is_same(&wanted))
+    is_of(alloc, &taken, text)
 }
 
 /// The tree that is taken of a document's nodes, if memory suffices.
-fn tree_in_nodes(alloc: Global, text: &[u8]) -> Option<Tree> {
-    let document = Document::parse(alloc, text).ok()?;
+fn tree_in_nodes(alloc: Global, text: &str) -> Option<Tree> {
+    let document = Document::parse(alloc, text.as_bytes()).ok()?;
     document.root().to_tree(alloc).ok()
 }
 

@@ -1,6 +1,7 @@
 //! Inputs that end within a value, or in which another token stands there: no list, map or struct is read of them, no value that may be null and
 //! no number, and each is refused as the parser refuses it.
 
+use crate::typed::{is_told, refusal};
 use facet_format::{DeserializeError, DeserializeErrorKind, Span};
 use facet_json::{Done, Need, from_slice, from_slice_borrowed, read_fields};
 use facet_json_facet::Facet;
@@ -12,7 +13,7 @@ use std::collections::BTreeMap;
 type Row<'r> = (&'r str, &'r str, &'r str, usize, usize);
 
 /// The refusal of a token, or of the end.
-fn refusal<'r>(got: &'r str, expected: &'r str) -> DeserializeErrorKind<'r> {
+fn kind_of<'r>(got: &'r str, expected: &'r str) -> DeserializeErrorKind<'r> {
     if got.is_empty() {
         DeserializeErrorKind::UnexpectedEof { expected }
     } else {
@@ -20,22 +21,17 @@ fn refusal<'r>(got: &'r str, expected: &'r str) -> DeserializeErrorKind<'r> {
     }
 }
 
-/// Whether the answer is the row's refusal.
-fn is_refused<T: Drop>(answer: Result<T, DeserializeError<'_>>, row: &Row<'_>) -> bool {
-    match &answer {
-        Ok(_) => false,
-        Err(error) => {
-            error.kind == refusal(row.1, row.2) && error.span == Some(Span::new(row.3, row.4))
-        }
-    }
+/// The row's refusal.
+fn refusal_of<'r>(row: &Row<'r>) -> DeserializeError<'r> {
+    refusal(kind_of(row.1, row.2), Span::new(row.3, row.4))
 }
 
 /// Whether no value of the type is read of any of the inputs, borrowed or not.
 fn refuses_all<'de, T: Facet<'de>>(alloc: Global, rows: &[Row<'de>]) -> bool {
     for row in rows {
         let input = row.0.as_bytes();
-        if !is_refused(from_slice::<T>(alloc, input), row)
-            || !is_refused(from_slice_borrowed::<T>(alloc, input), row)
+        if !is_told(from_slice::<T>(alloc, input), refusal_of(row))
+            || !is_told(from_slice_borrowed::<T>(alloc, input), refusal_of(row))
         {
             return false;
         }
@@ -56,8 +52,8 @@ fn read_struct<'t>(
 /// Whether no struct is read of any of the inputs.
 fn structs_refuse_all(alloc: Global, rows: &[Row<'_>]) -> bool {
     for row in rows {
-        if !is_refused(read_struct(alloc, row.0, false), row)
-            || !is_refused(read_struct(alloc, row.0, true), row)
+        if !is_told(read_struct(alloc, row.0, false), refusal_of(row))
+            || !is_told(read_struct(alloc, row.0, true), refusal_of(row))
         {
             return false;
         }

@@ -5,24 +5,24 @@ use std::alloc::Global;
 
 /// Whether the value's tree is the text's.
 fn has_tree(alloc: Global, value: &Value<'_, '_>, text: &str) -> bool {
-    match &value.to_tree(alloc) {
-        Ok(tree) => is_of(alloc, tree, text),
+    match value.to_tree(alloc) {
+        Ok(tree) => is_of(alloc, &tree, text) == Some(true),
         Err(_) => false,
     }
 }
 
-/// Whether the tree is the text's.
-fn is_of(alloc: Global, tree: &Tree, text: &str) -> bool {
-    match &tree_from_slice(alloc, text.as_bytes()) {
-        Ok(wanted) => tree.is_same(wanted),
-        Err(_) => false,
+/// Whether the tree is the text's, which is read where memory suffices.
+pub fn is_of(alloc: Global, tree: &Tree, text: &str) -> Option<bool> {
+    match tree_from_slice(alloc, text.as_bytes()) {
+        Ok(wanted) => Some(tree.is_same(&wanted)),
+        Err(_) => None,
     }
 }
 
 /// Whether the pointer names this value of the document, or nothing where nothing is wanted.
 fn names(alloc: Global, text: &str, pointer: &str, wanted: Option<&str>) -> bool {
-    match &Document::parse(alloc, text.as_bytes()) {
-        Ok(document) => leads_to(alloc, document, pointer, wanted),
+    match Document::parse(alloc, text.as_bytes()) {
+        Ok(document) => leads_to(alloc, &document, pointer, wanted),
         Err(_) => false,
     }
 }
@@ -121,7 +121,7 @@ static REFUSED: [(&str, PointerError); 10] = [
 
 /// Whether the text is refused so in this document.
 fn refuses(alloc: Global, document: &str, text: &str, wanted: &PointerError) -> bool {
-    match &Document::parse(alloc, document.as_bytes()) {
+    match Document::parse(alloc, document.as_bytes()) {
         Ok(document) => document.root().pointer(text).err() == Some(*wanted),
         Err(_) => false,
     }
@@ -157,7 +157,7 @@ static TREES: [&str; 14] = [
 
 /// Whether the tree of the text's nodes is the one that is read of it.
 fn is_copied(alloc: Global, text: &str) -> bool {
-    match &Document::parse(alloc, text.as_bytes()) {
+    match Document::parse(alloc, text.as_bytes()) {
         Ok(document) => has_tree(alloc, &document.root(), text),
         Err(_) => false,
     }
@@ -177,5 +177,5 @@ fn trees_are_taken_of_nodes(rt: HostRuntime) {
         assert!(rt; is_copied(alloc, *text));
     }
     let tree = kept(alloc, r#"{"a":[1,"\u0062"],"b":2}"#, "a").expect(&rt, "a tree");
-    assert!(rt; is_of(alloc, &tree, r#"[1,"b"]"#));
+    assert!(rt; is_of(alloc, &tree, r#"[1,"b"]"#) == Some(true));
 }

@@ -1,5 +1,6 @@
 //! Values of a document, written by a serializer that the caller holds. The wanted texts are those of RFC 8259 for these values.
 
+use crate::typed;
 use facet_format::FormatSerializer;
 use facet_json::{Document, JsonSerializeError, JsonSerializer, SerializeOptions, Value};
 use std::alloc::Global;
@@ -49,18 +50,10 @@ fn written_twice(alloc: Global, document: &Document<'_>) -> Result<Vec<u8>, Json
     serializer.finish()
 }
 
-/// Whether this was written, if memory sufficed.
-fn is_text(written: &Result<Vec<u8>, JsonSerializeError>, wanted: &str) -> Option<bool> {
-    match written {
-        Ok(written) => Some(written.as_slice() == wanted.as_bytes()),
-        Err(_) => None,
-    }
-}
-
 /// Whether the text of it is this, if memory suffices.
 pub fn is_written(alloc: Global, text: &str, wanted: &str) -> Option<bool> {
-    match &Document::parse(alloc, text.as_bytes()) {
-        Ok(document) => is_text(&written_twice(alloc, document), wanted),
+    match Document::parse(alloc, text.as_bytes()) {
+        Ok(document) => typed::is_written(written_twice(alloc, &document), wanted),
         Err(_) => None,
     }
 }
@@ -90,7 +83,7 @@ fn laid_out(
 fn is_laid_out(alloc: Global, options: SerializeOptions<'_>, wanted: &str) -> Option<bool> {
     let document = Document::parse(alloc, b"{\"a\":[{\"b\":[1,{}]}]}").ok()?;
     let member = document.root().get("a")?;
-    is_text(&laid_out(alloc, options, &member), wanted)
+    typed::is_written(laid_out(alloc, options, &member), wanted)
 }
 
 #[test]

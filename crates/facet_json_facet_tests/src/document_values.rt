@@ -6,7 +6,6 @@ use facet_json::{Document, Value, ValueKind};
 use std::alloc::Global;
 
 /// What a value is.
-#[derive(Clone, Copy)]
 enum Wanted {
     /// `null`
     Null,
@@ -182,7 +181,7 @@ static ROWS: [Row; 24] = [
 ];
 
 /// Whether a value is of this kind.
-fn has_kind(value: &Value<'_, '_>, wanted: Wanted) -> bool {
+fn has_kind(value: &Value<'_, '_>, wanted: &Wanted) -> bool {
     let kind = value.kind();
     match wanted {
         Wanted::Null => kind == ValueKind::Null,
@@ -197,12 +196,12 @@ fn has_kind(value: &Value<'_, '_>, wanted: Wanted) -> bool {
 }
 
 /// Whether a value is this, and by no other call anything else.
-fn is_wanted(value: &Value<'_, '_>, wanted: Wanted) -> bool {
+fn is_wanted(value: &Value<'_, '_>, wanted: &Wanted) -> bool {
     let (mut truth, mut large, mut negative, mut decimal, mut text, mut len) = (
         None, None, None, None, None, None,
     );
     let mut null = false;
-    match wanted {
+    match *wanted {
         Wanted::Null => null = true,
         Wanted::Truth(b) => truth = Some(b),
         Wanted::Large(n) => {
@@ -247,8 +246,8 @@ fn found<'d, 'i>(document: &'d Document<'i>, row: &Row) -> Option<Value<'d, 'i>>
 
 /// Whether the row is told.
 fn is_told(alloc: Global, row: &Row) -> bool {
-    match &Document::parse(alloc, row.text.as_bytes()) {
-        Ok(document) => is_found(document, row),
+    match Document::parse(alloc, row.text.as_bytes()) {
+        Ok(document) => is_found(&document, row),
         Err(_) => false,
     }
 }
@@ -256,7 +255,7 @@ fn is_told(alloc: Global, row: &Row) -> bool {
 /// Whether the row is told of its document.
 fn is_found(document: &Document<'_>, row: &Row) -> bool {
     match found(document, row) {
-        Some(value) => is_wanted(&value, row.wanted),
+        Some(value) => is_wanted(&value, &row.wanted),
         None => matches!(row.wanted, Wanted::Nothing),
     }
 }
@@ -341,7 +340,7 @@ fn holds_items(value: &Value<'_, '_>) -> bool {
 
 /// Whether the input is an object of these members alone.
 fn are_members(alloc: Global, input: &[u8]) -> bool {
-    match &Document::parse(alloc, input) {
+    match Document::parse(alloc, input) {
         Ok(document) => holds_members(&document.root()) && document.root().items().is_none(),
         Err(_) => false,
     }
@@ -349,7 +348,7 @@ fn are_members(alloc: Global, input: &[u8]) -> bool {
 
 /// Whether the input is a list of these items alone.
 fn are_items(alloc: Global, input: &[u8]) -> bool {
-    match &Document::parse(alloc, input) {
+    match Document::parse(alloc, input) {
         Ok(document) => holds_items(&document.root()) && document.root().members().is_none(),
         Err(_) => false,
     }

@@ -17,10 +17,15 @@ fn told(answers: &[Answer<'_>]) -> Option<(usize, u8)> {
     None
 }
 
+/// Whether so many events are told, and then this end.
+fn tell(answers: Vec<Answer<'_>>, events: usize, end: u8) -> bool {
+    told(answers.as_slice()) == Some((events, end))
+}
+
 /// Whether six calls for the next event tell so many events, and then this end.
 fn is_told(alloc: Global, input: &str, events: usize, end: u8) -> bool {
     match answers_to(alloc, input.as_bytes(), &[Call::Next; 6]) {
-        Ok(answers) => told(answers.as_slice()) == Some((events, end)),
+        Ok(answers) => tell(answers, events, end),
         Err(_) => false,
     }
 }
@@ -29,8 +34,8 @@ fn is_told(alloc: Global, input: &str, events: usize, end: u8) -> bool {
 fn both_tell(alloc: Global, text: &str, events: usize, end: u8) -> bool {
     match answers_of_both(alloc, text, &[Call::Next; 6]) {
         Ok((these, those)) => {
-            told(these.as_slice()) == Some((events, end))
-                && told(those.as_slice()) == Some((events, end))
+            let these_tell = tell(these, events, end);
+            tell(those, events, end) && these_tell
         }
         Err(_) => false,
     }

@@ -1,5 +1,7 @@
 //! The entry functions, each once with ample memory, and texts that the input lends.
 
+use crate::typed;
+use crate::typed::{is_told, refusal};
 use facet_format::{DeserializeError, DeserializeErrorKind, Span};
 use facet_json::{
     from_slice, from_slice_borrowed, from_slice_borrowed_jsonc, from_slice_jsonc, from_str,
@@ -30,16 +32,10 @@ fn texts_are_lent(rt: HostRuntime) {
 
 /// Whether the text is refused, since it cannot be lent, at all of its bytes.
 fn is_not_lent(answer: Result<&str, DeserializeError<'_>>, len: usize) -> bool {
-    match answer {
-        Ok(_) => false,
-        Err(error) => {
-            error.kind
-                == DeserializeErrorKind::InvalidValue {
-                    message: "a borrowed text needs an unescaped string",
-                }
-                && error.span == Some(Span::new(0, len))
-        }
-    }
+    let kind = DeserializeErrorKind::InvalidValue {
+        message: "a borrowed text needs an unescaped string",
+    };
+    is_told(answer, refusal(kind, Span::new(0, len)))
 }
 
 #[test]
@@ -88,14 +84,11 @@ fn values_outlive_their_input(rt: HostRuntime) {
 
 /// Whether these bytes were written.
 fn is_bytes(written: Result<Vec<u8>, JsonSerializeError>, text: &str) -> bool {
-    match written {
-        Ok(bytes) => bytes.as_slice() == text.as_bytes(),
-        Err(_) => false,
-    }
+    typed::is_written(written, text) == Some(true)
 }
 
 /// Whether this text was written.
-fn is_text(written: Result<String, JsonSerializeError>, text: &str) -> bool {
+pub fn is_text(written: Result<String, JsonSerializeError>, text: &str) -> bool {
     match written {
         Ok(made) => made.as_str() == text,
         Err(_) => false,

@@ -1,6 +1,7 @@
 //! A search for a key among an object's members (RFC 8259, section 4).
 
-use facet_format::{DeserializeError, FormatParser};
+use facet_format::DeserializeError;
+use facet_json::pass_end;
 use facet_json::steps::{begin_object, find_key};
 use facet_json_facet::Facet;
 use facet_json_parser::JsonParser;
@@ -38,7 +39,7 @@ fn lacks(alloc: Global, input: &str, name: &str) -> bool {
     let mut parser = JsonParser::new(alloc, input.as_bytes());
     begin_object(&mut parser).is_ok()
         && matches!(find_key(&mut parser, name), Ok(false))
-        && matches!(parser.next_event(), Ok(None))
+        && pass_end(&mut parser).is_ok()
 }
 
 /// Whether the search is refused.

@@ -1,6 +1,7 @@
 //! Texts laid out anew: worked rows, what is refused, and that a text laid out stays as it is.
 
-use crate::strict::{is_refused, token, unexpected};
+use crate::strict::{token, unexpected};
+use crate::typed::{is_told, refusal};
 use facet_format::{DeserializeErrorKind, Span};
 use facet_json::scanner::Mode;
 use facet_json::{FormatOptions, Indent, format_text, format_text_strict};
@@ -14,7 +15,7 @@ fn is_laid_out(alloc: Global, text: &str, wanted: &str) -> bool {
 
 /// Whether the text is laid out so.
 fn is_formatted(alloc: Global, text: &[u8], wanted: &[u8]) -> bool {
-    match &format_text(alloc, text, Mode::Jsonc, FormatOptions::new()) {
+    match format_text(alloc, text, Mode::Jsonc, FormatOptions::new()) {
         Ok(found) => found.as_slice() == wanted,
         Err(_) => false,
     }
@@ -89,7 +90,7 @@ fn texts_are_laid_out(rt: HostRuntime) {
 
 /// Whether the text is indented so.
 fn is_indented(alloc: Global, indent: Indent, wanted: &[u8]) -> bool {
-    match &format_text(alloc, b"[[1]]", Mode::Plain, FormatOptions { indent }) {
+    match format_text(alloc, b"[[1]]", Mode::Plain, FormatOptions { indent }) {
         Ok(found) => found.as_slice() == wanted,
         Err(_) => false,
     }
@@ -105,11 +106,8 @@ fn the_indent_is_chosen(rt: HostRuntime) {
 
 /// Whether a text is refused so, where comments may not stand.
 fn refuses(alloc: Global, text: &[u8], kind: DeserializeErrorKind<'_>, span: Span) -> bool {
-    is_refused(
-        format_text(alloc, text, Mode::Plain, FormatOptions::new()),
-        &kind,
-        span,
-    )
+    let answer = format_text(alloc, text, Mode::Plain, FormatOptions::new());
+    is_told(answer, refusal(kind, span))
 }
 
 /// Whether a text is refused so, where RFC 8259 alone is read.
@@ -119,11 +117,8 @@ fn refuses_strictly(
     kind: DeserializeErrorKind<'_>,
     span: Span,
 ) -> bool {
-    is_refused(
-        format_text_strict(alloc, text, FormatOptions::new()),
-        &kind,
-        span,
-    )
+    let answer = format_text_strict(alloc, text, FormatOptions::new());
+    is_told(answer, refusal(kind, span))
 }
 
 /// The refusal of a token behind the document.
@@ -189,7 +184,7 @@ fn push_tokens(
 
 /// Whether a text that is laid out stays as it is.
 fn stays(alloc: Global, text: &[u8]) -> bool {
-    match &format_text(alloc, text, Mode::Jsonc, FormatOptions::new()) {
+    match format_text(alloc, text, Mode::Jsonc, FormatOptions::new()) {
         Ok(once) => is_formatted(alloc, once.as_slice(), once.as_slice()),
         Err(_) => false,
     }
@@ -197,7 +192,7 @@ fn stays(alloc: Global, text: &[u8]) -> bool {
 
 /// Whether the document with these gaps does.
 fn stays_with(alloc: Global, first: (usize, &[u8]), second: (usize, &[u8])) -> bool {
-    match &text_with(alloc, first, second) {
+    match text_with(alloc, first, second) {
         Ok(text) => stays(alloc, text.as_slice()),
         Err(_) => false,
     }

@@ -1,6 +1,7 @@
 //! JSON lines: which bytes are the lines, which are refused, and that reading goes on after that, however the bytes come.
 
-use facet_format::{DeserializeError, Span};
+use crate::typed::is_text;
+use facet_format::Span;
 use facet_json::{Line, LineError, Lines, from_slice_borrowed};
 use facet_json_examples::log_filter::errors_in;
 use std::alloc::Global;
@@ -31,12 +32,11 @@ impl Read for Pieces<'_> {
     }
 }
 
-/// An input, a limit, and the lines that come: a number with a text, or with none where the line is too long.
-type Row = (
-    &'static str,
-    usize,
-    &'static [(usize, Option<&'static str>)],
-);
+/// A line that comes: its number with its text, or with none where the line is too long.
+type Wanted<'s> = (usize, Option<&'s str>);
+
+/// An input, a limit, and the lines that come.
+type Row = (&'static str, usize, &'static [Wanted<'static>]);
 
 static ROWS: [Row; 16] = [
     ("", 9, &[]),
@@ -69,48 +69,29 @@ static ROWS: [Row; 16] = [
     ("\n1\n\n", 0, &[(2, None)]),
 ];
 
-/// What a call for the next line answered, beside what it should.
-#[derive(Clone, Copy, PartialEq, Eq)]
-enum Answer {
-    As,
-    Failed,
-    Other,
-}
-
-/// What is answered where what came is as it should be, or is not.
-fn answer_if(is_right: bool) -> Answer {
-    if is_right { Answer::As } else { Answer::Other }
-}
-
-/// Whether the line has this number and text.
-fn is_line(line: &Line<'_>, number: usize, text: Option<&str>) -> bool {
-    match text {
-        Some(text) => line.number == number && line.text == text.as_bytes(),
-        None => false,
+/// Whether a line that came, or the end, is the wanted one.
+fn is_line(line: Option<Line<'_>>, wanted: Option<Wanted<'_>>) -> bool {
+    match (line, wanted) {
+        (Some(line), Some((number, Some(text)))) => {
+            line.number == number && line.text == text.as_bytes()
+        }
+        (None, None) => true,
+        _ => false,
     }
 }
 
-/// Asks for the next line.
-fn next<R: Read>(lines: &mut Lines<BufReader<R>>, number: usize, text: Option<&str>) -> Answer {
-    match &lines.next_line() {
-        Ok(Some(line)) => answer_if(is_line(line, number, text)),
-        Ok(None) => Answer::Other,
-        Err(LineError::TooLong { number: at }) => answer_if(text.is_none() && *at == number),
-        Err(LineError::Memory | LineError::Io(_)) => Answer::Failed,
-    }
-}
-
-/// Asks for the end.
-fn end<R: Read>(lines: &mut Lines<BufReader<R>>) -> Answer {
-    match &lines.next_line() {
-        Ok(None) => Answer::As,
-        Ok(Some(_)) | Err(LineError::TooLong { .. }) => Answer::Other,
-        Err(LineError::Memory | LineError::Io(_)) => Answer::Failed,
+/// Whether this line, or the end, was told; none where a failure was.
+fn is_told(came: Result<Option<Line<'_>>, LineError>, wanted: Option<Wanted<'_>>) -> Option<bool> {
+    match came {
+        Ok(line) => Some(is_line(line, wanted)),
+        Err(LineError::TooLong { number }) => Some(
+            matches!(wanted, Some((at, None)) if at == number),
+        ),
+        Err(LineError::Memory | LineError::Io(_)) => None,
     }
 }
 
 /// How the bytes come: the reader's buffer, the longest read, and which one fails.
-#[derive(Clone, Copy)]
 struct Way {
     buffer: usize,
     longest: usize,
@@ -120,9 +101,9 @@ struct Way {
 
 /// How often a failure was told before the end, which is asked for once more then; none where another line came.
 fn failures_at_end<R: Read>(lines: &mut Lines<BufReader<R>>) -> Option<usize> {
-    match end(lines) {
-        Answer::As => Some(0),
-        Answer::Failed if end(lines) == Answer::As => Some(1),
+    match is_told(lines.next_line(), None) {
+        Some(true) => Some(0),
+        None if is_told(lines.next_line(), None) == Some(true) => Some(1),
         _ => None,
     }
 }
@@ -130,16 +111,16 @@ fn failures_at_end<R: Read>(lines: &mut Lines<BufReader<R>>) -> Option<usize> {
 /// How often a failure was told where these lines came, and then the end; none where others came.
 fn failures_told<R: Read>(
     lines: &mut Lines<BufReader<R>>,
-    expected: &[(usize, Option<&str>)],
+    expected: &[Wanted<'_>],
 ) -> Option<usize> {
     let mut failed: usize = 0;
-    for (number, text) in expected {
-        let mut answer = next(lines, *number, *text);
-        if answer == Answer::Failed {
+    for wanted in expected {
+        let mut is_right = is_told(lines.next_line(), Some(*wanted));
+        if is_right.is_none() {
             failed = failed.saturating_add(1);
-            answer = next(lines, *number, *text);
+            is_right = is_told(lines.next_line(), Some(*wanted));
         }
-        if answer != Answer::As {
+        if is_right != Some(true) {
             return None;
         }
     }
@@ -148,14 +129,20 @@ fn failures_told<R: Read>(
 
 /// The same of a row whose bytes come this way.
 fn failures(alloc: Global, row: &Row, way: Way) -> Option<usize> {
+    let Way {
+        buffer,
+        longest,
+        fails_at,
+        kind,
+    } = way;
     let reader = Pieces {
         left: row.0.as_bytes(),
-        longest: way.longest,
+        longest,
         reads: 0,
-        fails_at: way.fails_at,
-        kind: way.kind,
+        fails_at,
+        kind,
     };
-    let reader = BufReader::with_capacity(alloc, way.buffer, reader).ok()?;
+    let reader = BufReader::with_capacity(alloc, buffer, reader).ok()?;
     failures_told(&mut Lines::new(alloc, reader, row.1), row.2)
 }
 
@@ -257,9 +244,9 @@ static SUMS: [(&str, u64, Refused); 5] = [
 
 /// Whether the numbers of the input have this sum, and this line is the first that is refused.
 fn is_summed(alloc: Global, input: &str, sum: u64, refused: Refused) -> bool {
-    match &summed(alloc, input.as_bytes()) {
-        Ok((total, first)) => *total == sum && *first == refused,
-        Err(_) => false,
+    match summed(alloc, input.as_bytes()).ok() {
+        Some((total, first)) => total == sum && first == refused,
+        None => false,
     }
 }
 
@@ -270,20 +257,12 @@ fn a_bad_line_does_not_end_the_reading(rt: HostRuntime) {
     }
 }
 
-/// Whether this text was read.
-fn is_text(read: &Result<String, DeserializeError<'_>>, text: &str) -> bool {
-    match read {
-        Ok(read) => read.as_str() == text,
-        Err(_) => false,
-    }
-}
-
 /// Whether the next line is this text, lent and owned.
 fn is_next(alloc: Global, lines: &mut Lines<&[u8]>, text: &str) -> bool {
-    match &lines.next_line() {
-        Ok(Some(line)) => {
+    match lines.next_line().ok() {
+        Some(Some(line)) => {
             from_slice_borrowed::<&str>(alloc, line.text) == Ok(text)
-                && is_text(&line.value::<String>(alloc), text)
+                && is_text(line.value::<String>(alloc), text)
         }
         _ => false,
     }
@@ -299,8 +278,8 @@ fn a_value_may_borrow_of_its_line(rt: HostRuntime) {
 }
 
 /// Whether the refusal's message begins so, and is no longer where `is_whole` says so.
-fn has_message(alloc: Global, refusal: &LineError, text: &str, is_whole: bool) -> bool {
-    match &format!(in alloc; "{refusal}") {
+fn has_message(alloc: Global, refusal: LineError, text: &str, is_whole: bool) -> bool {
+    match format!(in alloc; "{refusal}") {
         Ok(shown) => shown.starts_with(text) && (!is_whole || shown.len() == text.len()),
         Err(_) => false,
     }
@@ -310,10 +289,10 @@ fn has_message(alloc: Global, refusal: &LineError, text: &str, is_whole: bool) -
 fn refusals_have_a_message(rt: HostRuntime) {
     let alloc = rt.alloc();
     let long = LineError::TooLong { number: 12 };
-    assert!(rt; has_message(alloc, &long, "line 12 is too long", true));
-    assert!(rt; has_message(alloc, &LineError::Memory, "out of memory", true));
+    assert!(rt; has_message(alloc, long, "line 12 is too long", true));
+    assert!(rt; has_message(alloc, LineError::Memory, "out of memory", true));
     let failed = LineError::Io(io::Error::from(ErrorKind::BrokenPipe));
-    assert!(rt; has_message(alloc, &failed, "I/O error: ", false));
+    assert!(rt; has_message(alloc, failed, "I/O error: ", false));
 }
 
 /// A log of which two records are of errors. The second line is no record, and the fourth is cut.
@@ -322,5 +301,5 @@ const LOG: &str =
 
 #[test]
 fn errors_of_a_log_are_counted(rt: HostRuntime) {
-    assert!(rt; matches!(errors_in(rt.alloc(), LOG.as_bytes()), Ok(2)));
+    assert!(rt; errors_in(rt.alloc(), LOG.as_bytes()).ok() == Some(2));
 }

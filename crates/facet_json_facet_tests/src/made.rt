@@ -1,14 +1,20 @@
 //! Trees that are written down where they are needed, by `tree!`: each is the tree of its text.
 
-use facet_json::{Tree, tree, tree_from_slice};
+use crate::document_pointers::is_of;
+use facet_json::{Tree, tree};
 use std::alloc::{AllocError, Global};
+
+/// Whole numbers of each type with a sign.
+fn signed(alloc: Global) -> Result<Tree, AllocError> {
+    tree!(in alloc; [-1i8, 2i16, -3, 4i64, 0,])
+}
 
 /// Literals of each kind that may stand in a tree.
 fn of_literals(alloc: Global) -> Result<Tree, AllocError> {
     tree!(in alloc; {
         "nothing": null,
         "truth": [true, false],
-        "signed": [-1i8, 2i16, -3, 4i64, 0,],
+        "signed": signed(alloc)?,
     })
 }
 
@@ -36,29 +42,29 @@ fn of_trees(alloc: Global, copied: &Tree) -> Result<Tree, AllocError> {
 }
 
 /// Whether a tree is the one of this text.
-fn is_of_text(alloc: Global, made: &Result<Tree, AllocError>, text: &[u8]) -> bool {
-    match (made, &tree_from_slice(alloc, text)) {
-        (Ok(made), Ok(wanted)) => made == wanted,
-        _ => false,
+fn is_of_text(alloc: Global, made: Result<Tree, AllocError>, text: &str) -> bool {
+    match made {
+        Ok(made) => is_of(alloc, &made, text) == Some(true),
+        Err(_) => false,
     }
 }
 
 /// The text of `of_literals`.
-const LITERALS: &[u8] = br#"{"nothing":null,"truth":[true,false],"signed":[-1,2,-3,4,0]}"#;
+const LITERALS: &str = r#"{"nothing":null,"truth":[true,false],"signed":[-1,2,-3,4,0]}"#;
 
 /// The text of `of_names`.
-const NAMES: &[u8] = br#"{"name":"Ada","Ada":{"none":[],"empty":{}},"name":"twice"}"#;
+const NAMES: &str = r#"{"name":"Ada","Ada":{"none":[],"empty":{}},"name":"twice"}"#;
 
 /// The text of `of_trees`.
-const TREES: &[u8] = br#"{"ids":[1,2,3,4,5],"again":[1,2,3,4,5],"perhaps":[1,null,[null]]}"#;
+const TREES: &str = r#"{"ids":[1,2,3,4,5],"again":[1,2,3,4,5],"perhaps":[1,null,[null]]}"#;
 
 #[test]
 fn trees_are_written_down(rt: HostRuntime) {
     let alloc = rt.alloc();
-    assert!(rt; is_of_text(alloc, &of_literals(alloc), LITERALS));
-    assert!(rt; is_of_text(alloc, &of_names(alloc, "Ada"), NAMES));
+    assert!(rt; is_of_text(alloc, of_literals(alloc), LITERALS));
+    assert!(rt; is_of_text(alloc, of_names(alloc, "Ada"), NAMES));
     let copied = ids(alloc).expect(&rt, "memory");
-    assert!(rt; is_of_text(alloc, &of_trees(alloc, &copied), TREES));
-    assert!(rt; is_of_text(alloc, &tree!(in alloc; 7u8), b"7"));
-    assert!(rt; is_of_text(alloc, &tree!(in alloc; null), b"null"));
+    assert!(rt; is_of_text(alloc, of_trees(alloc, &copied), TREES));
+    assert!(rt; is_of_text(alloc, tree!(in alloc; 7u8), "7"));
+    assert!(rt; is_of_text(alloc, tree!(in alloc; null), "null"));
 }

@@ -6,8 +6,8 @@ use facet_format::Span;
 #[test]
 fn truth_values_are_read_and_written(rt: HostRuntime) {
     let alloc = rt.alloc();
-    assert!(rt; is_itself(alloc, "true", &true));
-    assert!(rt; is_itself(alloc, "false", &false));
+    assert!(rt; is_itself(alloc, "true", true));
+    assert!(rt; is_itself(alloc, "false", false));
 }
 
 #[test]

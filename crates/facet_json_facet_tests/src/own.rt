@@ -6,7 +6,7 @@ ghost use Rattle.facet_format.specs.Views.{refusal_of, span_of};
 ghost use Rattle.facet_json_document.specs.Now.{current_span_of as last_read};
 ghost use Rattle.facet_json_core.specs.Refusing.{IsAbout};
 
-use crate::typed::{is_itself, out_of_range, refuses};
+use crate::typed::{is_itself, is_told, out_of_range, refuses};
 use facet_format::{DeserializeError, DeserializeErrorKind, FormatParser, Span};
 use facet_json_facet::Facet;
 use facet_json_parser::JsonParser;
@@ -116,24 +116,22 @@ fn last_span(parser: &JsonParser<'_>) -> Span
 #[test]
 fn a_type_of_ones_own_is_read_and_written(rt: HostRuntime) {
     let alloc = rt.alloc();
-    assert!(rt; is_itself(alloc, "-40", &Named(-40_i16)));
+    assert!(rt; is_itself(alloc, "-40", Named(-40_i16)));
     assert!(rt; refuses::<Named<i16>>(alloc, "40000", out_of_range("i16"), Span::new(0, 5)));
 }
 
 /// Whether the input is refused as too much.
 fn is_too_much(alloc: Global, input: &str) -> bool {
     let mut parser = JsonParser::new(alloc, input.as_bytes());
-    match Percent::read_owned(alloc, &mut parser) {
-        Ok(_) => false,
-        Err(error) => error == too_much(Span::new(1, 3)),
-    }
+    let answer = Percent::read_owned(alloc, &mut parser);
+    is_told(answer, too_much(Span::new(1, 3)))
 }
 
 #[test]
 fn a_type_of_ones_own_may_have_bounds(rt: HostRuntime) {
     let alloc = rt.alloc();
-    assert!(rt; is_itself(alloc, "100", &Percent(100)));
-    assert!(rt; is_itself(alloc, "0", &Percent(0)));
+    assert!(rt; is_itself(alloc, "100", Percent(100)));
+    assert!(rt; is_itself(alloc, "0", Percent(0)));
     assert!(rt; is_too_much(alloc, " 101"));
     assert!(rt; refuses::<Percent>(alloc, "256", out_of_range("u8"), Span::new(0, 3)));
 }

@@ -40,10 +40,8 @@ static LISTS: [(&str, usize); 5] = [
 
 /// The end of the list of numbers that the input begins with.
 fn list_end(alloc: Global, input: &str) -> Option<usize> {
-    match &from_str_prefix::<Vec<u8>>(alloc, input) {
-        Ok((_, end)) => Some(*end),
-        Err(_) => None,
-    }
+    let (_, end) = from_str_prefix::<Vec<u8>>(alloc, input).ok()?;
+    Some(end)
 }
 
 #[test]

@@ -1,5 +1,6 @@
 //! Structs: they are read from objects by a table of their fields, and written call by call.
 
+use crate::typed::{is_told, is_written, refusal};
 use facet_format::{DeserializeError, DeserializeErrorKind, FormatSerializer, Span};
 use facet_json::{Done, Need, read_fields};
 use facet_json_core::RawJson;
@@ -9,7 +10,7 @@ use facet_json_serializer::{JsonSerializeError, JsonSerializer};
 use std::alloc::Global;
 
 /// A person, as `{"name":"Alice","age":30}`. The name may be borrowed.
-#[derive(PartialEq, Drop)]
+#[derive(Drop)]
 struct Person<N> {
     name: N,
     age: u32,
@@ -47,7 +48,7 @@ fn text_of_person(alloc: Global, person: &Person<&str>) -> Result<Vec<u8>, JsonS
 }
 
 /// A point, as `{"x":10,"y":20}`.
-#[derive(PartialEq, Drop)]
+#[derive(Drop)]
 struct Point {
     x: i32,
     y: i32,
@@ -80,7 +81,7 @@ fn text_of_point(alloc: Global, point: &Point) -> Result<Vec<u8>, JsonSerializeE
 }
 
 /// A response, as `{"status":200,"data":[]}`: whatever stands under `data` stays as it stands there.
-#[derive(PartialEq, Drop)]
+#[derive(Drop)]
 struct Response<'de> {
     status: u32,
     payload: RawJson<'de>,
@@ -120,37 +121,31 @@ fn text_of_response(alloc: Global, response: &Response<'_>) -> Result<Vec<u8>, J
     serializer.finish()
 }
 
-/// Whether this was written.
-fn is_text(answer: Result<Vec<u8>, JsonSerializeError>, text: &str) -> bool {
-    match &answer {
-        Ok(written) => written.as_slice() == text.as_bytes(),
-        Err(_) => false,
-    }
-}
-
 /// Whether an object without this field was refused at its closing bracket, which is at this byte.
 fn misses<T: Drop>(answer: Result<T, DeserializeError<'_>>, field: &str, bracket: usize) -> bool {
-    match &answer {
-        Ok(_) => false,
-        Err(error) => {
-            error.kind == DeserializeErrorKind::MissingField { field }
-                && error.span == Some(Span::new(bracket, 1))
-        }
-    }
+    let kind = DeserializeErrorKind::MissingField { field };
+    is_told(answer, refusal(kind, Span::new(bracket, 1)))
 }
 
 /// Whether the object is read as this person, with a name of its own.
 fn owns_name(alloc: Global, input: &str, name: &str, age: u32) -> bool {
-    match &read_person::<String>(alloc, input, false) {
+    match read_person::<String>(alloc, input, false) {
         Ok(person) => person.name.as_str() == name && person.age == age,
+        Err(_) => false,
+    }
+}
+
+/// The same with a borrowed one.
+fn lends_name(alloc: Global, input: &str, name: &str, age: u32) -> bool {
+    match read_person::<&str>(alloc, input, true) {
+        Ok(person) => person.name == name && person.age == age,
         Err(_) => false,
     }
 }
 
 /// Whether the object is read as this person, with a name of its own and with a borrowed one.
 fn is_person(alloc: Global, input: &str, name: &str, age: u32) -> bool {
-    owns_name(alloc, input, name, age)
-        && read_person(alloc, input, true) == Ok(Person { name, age })
+    owns_name(alloc, input, name, age) && lends_name(alloc, input, name, age)
 }
 
 /// Objects that are read as a person, with the name and the age.
@@ -185,10 +180,10 @@ fn persons_are_read_and_written(rt: HostRuntime) {
         age: 30,
     };
     assert!(rt;
-        is_text(
+        is_written(
             text_of_person(alloc, &alice),
             "{\"name\":\"Alice\",\"age\":30}"
-        )
+        ) == Some(true)
     );
 }
 
@@ -215,23 +210,45 @@ fn the_first_missing_field_is_named(rt: HostRuntime) {
     assert!(rt; misses(read_response(alloc, "{\"status\":200 }"), "data", 14));
 }
 
+/// Whether the object is read as this point.
+fn is_point(alloc: Global, input: &str, wanted: &Point) -> bool {
+    match read_point(alloc, input) {
+        Ok(point) => point.x == wanted.x && point.y == wanted.y,
+        Err(_) => false,
+    }
+}
+
 #[test]
 fn points_are_read_and_written(rt: HostRuntime) {
     let alloc = rt.alloc();
     let point = Point { x: 10, y: 20 };
-    assert!(rt; read_point(alloc, "{\"x\": 10, \"y\": 20}") == Ok(Point { x: 10, y: 20 }));
-    assert!(rt; is_text(text_of_point(alloc, &point), "{\"x\":10,\"y\":20}"));
+    assert!(rt; is_point(alloc, "{\"x\": 10, \"y\": 20}", &point));
+    assert!(rt; is_written(text_of_point(alloc, &point), "{\"x\":10,\"y\":20}") == Some(true));
+}
+
+/// Whether the object is read as this response.
+fn is_response(alloc: Global, input: &str, status: u32, payload: &str) -> bool {
+    match read_response(alloc, input) {
+        Ok(response) => response.status == status && response.payload.as_str() == payload,
+        Err(_) => false,
+    }
+}
+
+/// Whether the response is written as this text.
+fn is_text_of(alloc: Global, status: u32, payload: &str, text: &str) -> bool {
+    let response = Response {
+        status,
+        payload: RawJson::new(payload),
+    };
+    is_written(text_of_response(alloc, &response), text) == Some(true)
 }
 
 #[test]
 fn responses_are_read_and_written(rt: HostRuntime) {
     let alloc = rt.alloc();
-    let response = Response {
-        status: 200,
-        payload: RawJson::new("{\"nested\": [1, 2, 3], \"complex\": true}"),
-    };
+    let payload = "{\"nested\": [1, 2, 3], \"complex\": true}";
     let text = "{\"status\":200,\"data\":{\"nested\": [1, 2, 3], \"complex\": true}}";
-    assert!(rt; is_text(text_of_response(alloc, &response), text));
+    assert!(rt; is_text_of(alloc, 200, payload, text));
     let input = "{\"status\": 200, \"data\": {\"nested\": [1, 2, 3], \"complex\": true}}";
-    assert!(rt; read_response(alloc, input) == Ok(response));
+    assert!(rt; is_response(alloc, input, 200, payload));
 }

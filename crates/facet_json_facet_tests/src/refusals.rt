@@ -1,6 +1,6 @@
 //! What is no value of a type: each type refuses every other event by its own name and the event's, and the parser goes on after it.
 
-use crate::typed::mismatch;
+use crate::typed::{is_passed, is_told, mismatch, refusal};
 use facet_format::{DeserializeError, DeserializeErrorKind, FormatParser, Span};
 use facet_json_facet::Facet;
 use facet_json_parser::JsonParser;
@@ -8,20 +8,9 @@ use facet_json_tree::Tree;
 use std::alloc::Global;
 use std::collections::BTreeMap;
 
-/// Whether the value is refused so.
-pub fn is_told<T: Drop>(
-    answer: Result<T, DeserializeError<'_>>,
-    error: DeserializeError<'_>,
-) -> bool {
-    match &answer {
-        Ok(_) => false,
-        Err(told) => *told == error,
-    }
-}
-
 /// Whether the parser stands before the value: at once where it is the first, and else after an event.
 fn stands(parser: &mut JsonParser<'_>, is_first: bool) -> bool {
-    is_first || parser.next_event().is_ok()
+    is_first || is_passed(parser.next_event())
 }
 
 /// Whether a value there is refused so, where it may borrow or may not, and the parser goes on after it.
@@ -40,7 +29,7 @@ fn refuses_there<'de, T: Facet<'de>>(
     } else {
         T::read_owned(alloc, parser)
     };
-    is_told(answer, error) && parser.next_event().is_ok()
+    is_told(answer, error) && is_passed(parser.next_event())
 }
 
 /// Whether a value there is refused so, borrowed or not, and the parser goes on after it.
@@ -75,10 +64,7 @@ fn refuses_event<'de, T: Facet<'de>>(
     got: &'de str,
     span: Span,
 ) -> bool {
-    let error = DeserializeError {
-        kind: mismatch(expected, got),
-        span: Some(span),
-    };
+    let error = refusal(mismatch(expected, got), span);
     taken.contains(&input) || is_refused::<T>(alloc, input, error, span.offset == 0)
 }
 
@@ -115,15 +101,13 @@ fn refuses_others<'de, T: Facet<'de>>(
 
 /// The refusal where no value comes any more.
 fn no_value<'t>(end: usize) -> DeserializeError<'t> {
-    DeserializeError {
-        kind: DeserializeErrorKind::UnexpectedEof { expected: "value" },
-        span: Some(Span::new(end, 0)),
-    }
+    let kind = DeserializeErrorKind::UnexpectedEof { expected: "value" };
+    refusal(kind, Span::new(end, 0))
 }
 
 /// Whether no value of the type stands after the document.
 fn owns_nothing_more<'de, T: Facet<'de>>(alloc: Global, parser: &mut JsonParser<'de>) -> bool {
-    parser.next_event().is_ok() && is_told(T::read_owned(alloc, parser), no_value(2))
+    is_passed(parser.next_event()) && is_told(T::read_owned(alloc, parser), no_value(2))
 }
 
 /// The same where it may be borrowed.
@@ -197,10 +181,11 @@ fn second<'de, T: Facet<'de>>(alloc: Global, input: &'de str) -> Option<T> {
 
 /// The second item of the list that comes, after the first one was refused.
 fn after_refused<'de, T: Facet<'de>>(alloc: Global, parser: &mut JsonParser<'de>) -> Option<T> {
-    if parser.next_event().is_err() || T::read(alloc, parser).is_ok() {
-        return None;
+    if is_passed(parser.next_event()) && T::read(alloc, parser).err().is_some() {
+        T::read(alloc, parser).ok()
+    } else {
+        None
     }
-    T::read(alloc, parser).ok()
 }
 
 #[test]

@@ -5,9 +5,9 @@ use std::alloc::Global;
 
 /// Whether the document is written as this text.
 fn is_written(alloc: Global, document: &str, text: &str) -> bool {
-    match &rewritten(alloc, document.as_bytes()) {
-        Ok(written) => written.as_slice() == text.as_bytes(),
-        Err(_) => false,
+    match rewritten(alloc, document.as_bytes()).ok() {
+        Some(written) => written.as_slice() == text.as_bytes(),
+        None => false,
     }
 }
 
@@ -28,5 +28,5 @@ fn documents_are_rewritten(rt: HostRuntime) {
         assert!(rt; is_written(alloc, *document, *text));
         assert!(rt; is_written(alloc, *text, *text));
     }
-    assert!(rt; rewritten(alloc, b"[1").is_err());
+    assert!(rt; rewritten(alloc, b"[1").ok().is_none());
 }

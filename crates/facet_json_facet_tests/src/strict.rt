@@ -1,23 +1,11 @@
 //! Values of strict mode, which is RFC 8259 alone: what stands behind them is looked at, and what a capture passes is not.
 
-use crate::typed::{mismatch, out_of_range};
-use facet_format::{DeserializeError, DeserializeErrorKind, Span};
+use crate::typed::{is_told, mismatch, out_of_range, refusal};
+use facet_format::{DeserializeErrorKind, Span};
 use facet_json::{from_slice, from_slice_strict, from_str_strict};
 use facet_json_core::RawJson;
 use facet_json_facet::Facet;
 use std::alloc::Global;
-
-/// Whether the answer is this refusal.
-pub(crate) fn is_refused<T: Drop>(
-    answer: Result<T, DeserializeError<'_>>,
-    kind: &DeserializeErrorKind<'_>,
-    span: Span,
-) -> bool {
-    match &answer {
-        Ok(_) => false,
-        Err(error) => error.kind == *kind && error.span == Some(span),
-    }
-}
 
 /// Whether strict mode refuses the input so, as bytes and as a text.
 fn refuses<'de, T: Facet<'de>>(
@@ -26,8 +14,9 @@ fn refuses<'de, T: Facet<'de>>(
     kind: DeserializeErrorKind<'_>,
     span: Span,
 ) -> bool {
-    is_refused(from_slice_strict::<T>(alloc, input.as_bytes()), &kind, span)
-        && is_refused(from_str_strict::<T>(alloc, input), &kind, span)
+    let error = refusal(kind, span);
+    is_told(from_slice_strict::<T>(alloc, input.as_bytes()), error)
+        && is_told(from_str_strict::<T>(alloc, input), error)
 }
 
 /// The refusal of a byte that may not stand there.

@@ -1,7 +1,9 @@
 //! Texts.
 
+use crate::entries::is_text;
+use crate::typed;
 use crate::typed::{is_itself, mismatch, reads, refuses};
-use facet_format::{DeserializeError, Span};
+use facet_format::Span;
 use facet_json::{from_str, to_string};
 use std::alloc::Global;
 
@@ -16,7 +18,7 @@ fn reads_text(alloc: Global, input: &str, text: &str) -> bool {
 /// Whether the text is written so, and read again.
 fn is_written(alloc: Global, text: &str, written: &str) -> bool {
     match String::from_str(alloc, text) {
-        Ok(value) => is_itself(alloc, written, &value),
+        Ok(value) => is_itself(alloc, written, value),
         Err(_) => false,
     }
 }
@@ -71,23 +73,10 @@ static TEXTS: [(&str, &str); 13] = [
 /// Whether the text is written so, as a text too, and read again.
 fn comes_back(alloc: Global, text: &str, written: &str) -> bool {
     match String::from_str(alloc, text) {
-        Ok(value) => { is_text(alloc, &value, written) && is_read(&from_str(alloc, written), text) }
-        Err(_) => false,
-    }
-}
-
-/// Whether this text was read.
-fn is_read(read: &Result<String, DeserializeError<'_>>, text: &str) -> bool {
-    match read {
-        Ok(read) => read.as_str() == text,
-        Err(_) => false,
-    }
-}
-
-/// Whether the text is written so, as a text.
-fn is_text(alloc: Global, value: &String, written: &str) -> bool {
-    match &to_string(alloc, value) {
-        Ok(json) => json.as_str() == written,
+        Ok(value) => {
+            is_text(to_string(alloc, &value), written)
+                && typed::is_text(from_str(alloc, written), text)
+        }
         Err(_) => false,
     }
 }

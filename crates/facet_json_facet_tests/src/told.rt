@@ -1,7 +1,7 @@
 //! Each entry function tells a refusal whole, its kind with its texts and its span: what is no document, at each place; an input that ends early;
 //! and what is no value of the type.
 
-use crate::refusals::is_told;
+use crate::typed::{is_told, refusal};
 use facet_format::{DeserializeError, DeserializeErrorKind, Span};
 use facet_json::{
     from_slice, from_slice_borrowed, from_slice_borrowed_jsonc, from_slice_jsonc,
@@ -13,9 +13,9 @@ use facet_json_examples::accounts::Account;
 use facet_json_facet::Facet;
 use std::alloc::Global;
 use std::collections::BTreeMap;
+use std::process::Abort;
 
 /// What is wrong with an input.
-#[derive(Clone, Copy)]
 enum Wrong<'s> {
     /// A byte with which no token goes on.
     Byte(char),
@@ -37,8 +37,8 @@ enum Wrong<'s> {
 type Row<'s> = (&'s str, Wrong<'s>, usize, usize);
 
 /// The kind with its texts.
-fn kind_of<'s>(wrong: Wrong<'s>) -> DeserializeErrorKind<'s> {
-    match wrong {
+fn kind_of<'s>(wrong: &Wrong<'s>) -> DeserializeErrorKind<'s> {
+    match *wrong {
         Wrong::Byte(ch) => DeserializeErrorKind::UnexpectedChar {
             ch,
             expected: "valid JSON token",
@@ -89,10 +89,7 @@ fn is_told_strictly<'de, T: Facet<'de>>(
 
 /// The refusal of a row.
 fn refusal_of<'s>(row: &Row<'s>) -> DeserializeError<'s> {
-    DeserializeError {
-        kind: kind_of(row.1),
-        span: Some(Span::new(row.2, row.3)),
-    }
+    refusal(kind_of(&row.1), Span::new(row.2, row.3))
 }
 
 /// Whether each of the eight functions tells what the row says.
@@ -101,9 +98,13 @@ fn all_tell<'de, T: Facet<'de>>(alloc: Global, row: &Row<'de>) -> bool {
         && is_told_borrowed::<T>(alloc, row.0, refusal_of(row))
 }
 
-/// Whether these and the strict ones do.
-fn strict_too<'de, T: Facet<'de>>(alloc: Global, row: &Row<'de>) -> bool {
-    all_tell::<T>(alloc, row) && is_told_strictly::<T>(alloc, row.0, refusal_of(row))
+/// Fails where one of them tells something else than its row says, or, of rows for them too, one of those that read strictly.
+fn expect<'de, T: Facet<'de>>(rt: &impl Abort, alloc: Global, rows: &[Row<'de>], strict_too: bool) {
+    for row in rows {
+        let holds = all_tell::<T>(alloc, row)
+            && (!strict_too || is_told_strictly::<T>(alloc, row.0, refusal_of(row)));
+        assert!(rt; holds, "of {}", row.0);
+    }
 }
 
 /// What is no list of bytes.
@@ -207,36 +208,22 @@ static RAW_TEXTS: [Row<'static>; 4] = [
 #[test]
 fn lists_tell_what_is_wrong(rt: HostRuntime) {
     let alloc = rt.alloc();
-    for row in &LISTS {
-        assert!(rt; strict_too::<Vec<u8>>(alloc, row));
-    }
-    for row in &LISTS_AFTER_COMMAS {
-        assert!(rt; all_tell::<Vec<u8>>(alloc, row));
-    }
+    expect::<Vec<u8>>(&rt, alloc, &LISTS, true);
+    expect::<Vec<u8>>(&rt, alloc, &LISTS_AFTER_COMMAS, false);
 }
 
 #[test]
 fn maps_tell_what_is_wrong(rt: HostRuntime) {
     let alloc = rt.alloc();
-    for row in &MAPS {
-        assert!(rt; strict_too::<BTreeMap<String, u8>>(alloc, row));
-    }
-    for row in &MAPS_AFTER_COMMAS {
-        assert!(rt; all_tell::<BTreeMap<String, u8>>(alloc, row));
-    }
+    expect::<BTreeMap<String, u8>>(&rt, alloc, &MAPS, true);
+    expect::<BTreeMap<String, u8>>(&rt, alloc, &MAPS_AFTER_COMMAS, false);
 }
 
 #[test]
 fn other_types_tell_what_is_wrong(rt: HostRuntime) {
     let alloc = rt.alloc();
-    for row in &TEXTS {
-        assert!(rt; strict_too::<String>(alloc, row));
-    }
-    for row in &ACCOUNTS {
-        assert!(rt; strict_too::<Account>(alloc, row));
-    }
-    for row in &RAW_TEXTS {
-        assert!(rt; strict_too::<RawJson<'static>>(alloc, row));
-        assert!(rt; strict_too::<Option<RawJson<'static>>>(alloc, row));
-    }
+    expect::<String>(&rt, alloc, &TEXTS, true);
+    expect::<Account>(&rt, alloc, &ACCOUNTS, true);
+    expect::<RawJson<'static>>(&rt, alloc, &RAW_TEXTS, true);
+    expect::<Option<RawJson<'static>>>(&rt, alloc, &RAW_TEXTS, true);
 }

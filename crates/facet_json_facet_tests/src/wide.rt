@@ -8,25 +8,19 @@ use std::alloc::Global;
 #[test]
 fn numbers_past_64_bits_are_read_and_written(rt: HostRuntime) {
     let alloc = rt.alloc();
-    assert!(rt; is_itself(alloc, "18446744073709551616", &18446744073709551616_u128));
-    assert!(rt; is_itself(alloc, "340282366920938463463374607431768211455", &u128::MAX));
-    assert!(rt; is_itself(alloc, "170141183460469231731687303715884105727", &i128::MAX));
-    assert!(rt;
-        is_itself(
-            alloc,
-            "-170141183460469231731687303715884105728",
-            &i128::MIN
-        )
-    );
-    assert!(rt; is_itself(alloc, "-9223372036854775809", &-9223372036854775809_i128));
+    assert!(rt; is_itself(alloc, "18446744073709551616", 18446744073709551616_u128));
+    assert!(rt; is_itself(alloc, "340282366920938463463374607431768211455", u128::MAX));
+    assert!(rt; is_itself(alloc, "170141183460469231731687303715884105727", i128::MAX));
+    assert!(rt; is_itself(alloc, "-170141183460469231731687303715884105728", i128::MIN));
+    assert!(rt; is_itself(alloc, "-9223372036854775809", -9223372036854775809_i128));
 }
 
 #[test]
 fn numbers_within_64_bits_are_read_and_written(rt: HostRuntime) {
     let alloc = rt.alloc();
-    assert!(rt; is_itself(alloc, "0", &0_u128));
-    assert!(rt; is_itself(alloc, "18446744073709551615", &18446744073709551615_u128));
-    assert!(rt; is_itself(alloc, "-1", &-1_i128));
+    assert!(rt; is_itself(alloc, "0", 0_u128));
+    assert!(rt; is_itself(alloc, "18446744073709551615", 18446744073709551615_u128));
+    assert!(rt; is_itself(alloc, "-1", -1_i128));
     assert!(rt; reads(alloc, "00018446744073709551616", &18446744073709551616_u128));
     assert!(rt; refuses::<u128>(alloc, "-1", out_of_range("u128"), Span::new(0, 2)));
 }
