@@ -1,7 +1,7 @@
 //! The entry functions, each once with ample memory, and texts that the input lends.
 
 use crate::typed;
-use crate::typed::{is_told, refusal};
+use crate::typed::{is_text, is_told, refusal};
 use facet_format::{DeserializeError, DeserializeErrorKind, Span};
 use facet_json::{
     from_slice, from_slice_borrowed, from_slice_borrowed_jsonc, from_slice_jsonc, from_str,
@@ -85,14 +85,6 @@ fn values_outlive_their_input(rt: HostRuntime) {
 /// Whether these bytes were written.
 fn is_bytes(written: Result<Vec<u8>, JsonSerializeError>, text: &str) -> bool {
     typed::is_written(written, text) == Some(true)
-}
-
-/// Whether this text was written.
-pub fn is_text(written: Result<String, JsonSerializeError>, text: &str) -> bool {
-    match written {
-        Ok(made) => made.as_str() == text,
-        Err(_) => false,
-    }
 }
 
 /// Whether the list is written as these texts: compact, on lines, and indented by a tab.

@@ -1,8 +1,6 @@
 //! Texts.
 
-use crate::entries::is_text;
-use crate::typed;
-use crate::typed::{is_itself, mismatch, reads, refuses};
+use crate::typed::{is_itself, is_text, mismatch, reads, refuses};
 use facet_format::Span;
 use facet_json::{from_str, to_string};
 use std::alloc::Global;
@@ -74,8 +72,7 @@ static TEXTS: [(&str, &str); 13] = [
 fn comes_back(alloc: Global, text: &str, written: &str) -> bool {
     match String::from_str(alloc, text) {
         Ok(value) => {
-            is_text(to_string(alloc, &value), written)
-                && typed::is_text(from_str(alloc, written), text)
+            is_text(to_string(alloc, &value), written) && is_text(from_str(alloc, written), text)
         }
         Err(_) => false,
     }

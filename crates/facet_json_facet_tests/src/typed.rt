@@ -99,10 +99,10 @@ pub fn is_passed(answer: Result<Option<ParseEvent<'_>>, ParseError<'_>>) -> bool
     answer.err().is_none()
 }
 
-/// Whether this text was read.
-pub fn is_text(read: Result<String, DeserializeError<'_>>, text: &str) -> bool {
-    match read {
-        Ok(read) => read.as_str() == text,
+/// Whether this text was read, or written.
+pub fn is_text<E: Drop>(answer: Result<String, E>, text: &str) -> bool {
+    match answer {
+        Ok(made) => made.as_str() == text,
         Err(_) => false,
     }
 }
