@@ -7,8 +7,8 @@ import subprocess
 import sys
 import tempfile
 
-SIZES = [1 << 18, 1 << 20]
-WORKS = ["tokens", "scanner", "skip", "events", "trusted", "tree"]
+SIZES = [1 << 19, 1 << 21]
+WORKS = ["tokens", "scanner", "skip", "check", "events", "trusted", "document", "tree"]
 TURNS = 5
 
 

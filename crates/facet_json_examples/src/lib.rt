@@ -3,6 +3,7 @@
 
 pub mod accounts;
 pub mod contacts;
+pub mod documents;
 pub mod driving;
 pub mod events;
 pub mod log_filter;

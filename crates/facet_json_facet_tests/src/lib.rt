@@ -19,6 +19,8 @@ mod document_depths;
 #[cfg(test)]
 mod document_pointers;
 #[cfg(test)]
+mod document_raw;
+#[cfg(test)]
 mod document_texts;
 #[cfg(test)]
 mod document_values;

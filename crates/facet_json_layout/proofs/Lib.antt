@@ -1,7 +1,7 @@
 pub mod AllTokens
 pub mod EventsUp
 pub mod LaidOut
-pub mod NodeTables
+pub mod NodeTrees
 pub mod NodesBuilt
 pub mod NodesHeld
 pub mod NodesRead

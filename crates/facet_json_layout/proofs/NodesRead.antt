@@ -1,11 +1,11 @@
 -- The nodes of all events of an input are its document's.
 use Rattle.std.proofs.Common.{◌≡◌, ◌⊎◌, inl, inr, ℕ, Bool, true, false, List, [], ◌∷◌, ◌++◌, sym, ap, ◌∙◌, subst}
 use Rattle.std.specs.Prelude.{Option, Some, None}
+use Rattle.std.proofs.lemmas.List.{append-nil}
 use Rattle.facet_format.specs.Complaint.{Refusal}
 use Rattle.facet_format.specs.Event.{Event, Passed}
 use Rattle.facet_json_token.specs.Gap.{Mode, plain}
 use Rattle.facet_json_core.specs.Reading.{LacksMemory}
-use Rattle.facet_json_core.proofs.WalkTells.{walk-tells}
 use Rattle.facet_json_document.specs.Document.{IsDocument}
 use Rattle.facet_json_document.specs.EventLaws.{RootComes, document_comes, prefix_comes}
 use Rattle.facet_json_document.specs.Future.{finished, events_before}
@@ -21,15 +21,15 @@ use Rattle.facet_json_document.specs.Walk.{walk}
 use Rattle.facet_json_document.proofs.LongestPrefix.{input-comes}
 use Rattle.facet_json_document.proofs.MovesNext.{next-passes, next-over}
 use Rattle.facet_json_document.proofs.StrictRoot.{no_end, strict_input-comes, strict_document-comes}
-use Rattle.facet_json_document.proofs.WalkComes.{document-comes, events_before-append}
+use Rattle.facet_json_document.proofs.WalkComes.{document-comes, events_before-append, events_before-same}
 use Rattle.facet_json_layout.specs.Formatted.{GetsStuck, GetsStuckWithin, as_ever, opens_beyond}
-use Rattle.facet_json_layout.specs.Nodes.{Node as DocumentNode, value_at}
-use Rattle.facet_json_layout.specs.Inner.Building.{NodesSoFar, added, none_yet, AddsNext, AddsSome, AddsAll, LeavesRoom, IsTooDeep, RefusesNext, stops, too_deep}
+use Rattle.facet_json_layout.specs.Nodes.{Node as DocumentNode, as_nodes, first_value}
+use Rattle.facet_json_layout.specs.Inner.Building.{NodesSoFar, added, all_added, none_yet, AddsNext, AddsSome, AddsAll, IsTooDeep, RefusesNext, stops, too_deep}
 use Rattle.facet_json_tree.specs.Depth.{beyond}
 use Rattle.facet_json_tree.specs.Inner.Beyond.{SameBeyond}
 use Rattle.facet_json_tree.proofs.BeyondEvents.{unlimited-none}
 use Rattle.facet_json_layout.proofs.EventsUp.{refused-next, stops-later}
-use Rattle.facet_json_layout.proofs.NodesBuilt.{added-append, built-tree}
+use Rattle.facet_json_layout.proofs.NodesBuilt.{added-append, added-input, begins, builds}
 
 -- ---- one call
 
@@ -41,7 +41,7 @@ adds-more old now new was is some told =
     record {
       events = some.events ++ p ∷ [];
       comes = some.comes ∙ ap (events_before some.events) one.comes ∙ sym (events_before-append some.events (p ∷ []) (future_of new));
-      nodes = told.2 ∙ ap (added told.0.kind) some.nodes ∙ sym (added-append some.events (p ∷ []) none_yet);
+      nodes = told.2 ∙ ap (added told.0.kind told.0.span) some.nodes ∙ sym (added-append some.events (p ∷ []) (none_yet old.buffer));
     }
 
 -- Then the end.
@@ -72,11 +72,6 @@ adds-shallow limit room old now new was is level told = level.same ∙ ap (λ f.
 
 -- ---- one event within a depth
 
-pub leveled : (room left : Option ℕ) (old new : Now) (e : Event) → PassesNext old e new → LeavesRoom room e.kind e.span left →
-    SameBeyond (future_of old) room (future_of new) left
-leveled room left old new e passed leaves =
-    record { same = ap (λ f. beyond f room) passed.comes ∙ leaves (beyond (future_of new)) }
-
 pub refused-deep : (room : Option ℕ) (old new : Now) (e : Event) (r : Refusal) → PassesNext old e new →
     LacksMemory r ⊎ IsTooDeep room e.kind e.span r → LacksMemory r ⊎ RefusesNext room old new r
 refused-deep room old new e r passed (inl lacks) = inl lacks
@@ -94,44 +89,62 @@ pub adds-free : (some : Bool) (old new : Now) (was is : NodesSoFar) → AddsNext
 adds-free true old new was is told = (next-passes old new told.0 told.1).free
 adds-free false old new was is told = (next-over old new told.0).free
 
+-- They are nodes of the same input.
+pub adds-input : (some : Bool) (old new : Now) (was is : NodesSoFar) → AddsNext some old new was is → is.input ≡ was.input
+adds-input true old new was is told = ap (λ (s : NodesSoFar). s.input) told.2 ∙ added-input told.0.kind told.0.span was
+adds-input false old new was is told = ap (λ (s : NodesSoFar). s.input) told.1
+
 -- ---- whole documents
 
--- Where a document's walk comes, its value begins at the first node.
-walk-value : (text : List ℕ) (now : Now) (node : Node) (value : Tree) (nodes : List DocumentNode) → AddsAll now nodes →
-    future_of now ≡ events_before (walk text node) finished → tree_of text node ≡ Some value → value_at nodes 0 ≡ value
-walk-value text now node value nodes all comes has =
-    ap (λ l. value_at l 0) all.made
-    ∙ built-tree (events_before (walk text node) finished) value (walk-tells text node value finished has) all.events (sym comes ∙ all.comes)
+-- Where a document's walk comes, the nodes are the document's.
+walk-nodes : (now : Now) (node : Node) (value : Tree) (nodes : List DocumentNode) → AddsAll now nodes →
+    future_of now ≡ events_before (walk now.buffer node) finished → tree_of now.buffer node ≡ Some value → nodes ≡ as_nodes now.buffer node
+walk-nodes now node value nodes all comes has =
+    let same : all.events ≡ walk now.buffer node = events_before-same all.events (walk now.buffer node) (sym all.comes ∙ comes) in
+    all.made ∙ ap (λ l. (all_added l (none_yet now.buffer)).nodes) same ∙ ap (λ (s : NodesSoFar). s.nodes) (builds node (none_yet now.buffer) value has)
+
+-- There the document's value begins.
+nodes-value : (text : List ℕ) (node : Node) (value : Tree) (nodes : List DocumentNode) → nodes ≡ as_nodes text node → tree_of text node ≡ Some value →
+    first_value nodes ≡ value
+nodes-value text node value nodes e has = ap first_value (e ∙ sym (append-nil (as_nodes text node))) ∙ begins text node value has []
 
 module _ (text : List ℕ) (mode : Mode) where
-  -- It is the one that is read.
+  -- They are those of the document that is read,
+  pub nodes-only : (nodes : List DocumentNode) → AddsAll (fresh text mode) nodes → (root : Node) (value : Tree) → IsDocument text mode root value →
+      nodes ≡ as_nodes text root
+  nodes-only nodes all root value d = walk-nodes (fresh text mode) root value nodes all (document-comes text mode root value d) d.reads.has_tree
+
+  -- and their value is its own.
   pub value-only : (nodes : List DocumentNode) (root : Node) (value : Tree) → AddsAll (fresh text mode) nodes → IsDocument text mode root value →
-      value_at nodes 0 ≡ value
-  value-only nodes root value all d =
-      walk-value text (fresh text mode) root value nodes all (document-comes text mode root value d) d.reads.has_tree
+      first_value nodes ≡ value
+  value-only nodes root value all d = nodes-value text root value nodes (nodes-only nodes all root value d) d.reads.has_tree
 
   read_by : (nodes : List DocumentNode) → AddsAll (fresh text mode) nodes → RootComes text mode →
-      (root : Node) × IsDocument text mode root (value_at nodes 0)
+      (root : Node) × IsDocument text mode root (first_value nodes)
   read_by nodes all (document_comes root value d comes) =
       (root, subst (IsDocument text mode root) (sym (value-only nodes root value all d)) d)
   read_by nodes all (prefix_comes events here rest front comes) = absurd (no_end text events all.events here rest (sym comes ∙ all.comes))
 
-  pub value-read : (nodes : List DocumentNode) → AddsAll (fresh text mode) nodes → (root : Node) × IsDocument text mode root (value_at nodes 0)
+  pub value-read : (nodes : List DocumentNode) → AddsAll (fresh text mode) nodes → (root : Node) × IsDocument text mode root (first_value nodes)
   value-read nodes all = read_by nodes all (input-comes text mode)
 
 module _ (text : List ℕ) where
+  pub strict_nodes-only : (nodes : List DocumentNode) → AddsAll (fresh_in text (strict plain)) nodes → (root : Node) (value : Tree) →
+      IsStrictDocument text root value → nodes ≡ as_nodes text root
+  strict_nodes-only nodes all root value d =
+      walk-nodes (fresh_in text (strict plain)) root value nodes all (strict_document-comes text root value d) d.whole.reads.has_tree
+
   pub strict-only : (nodes : List DocumentNode) (root : Node) (value : Tree) → AddsAll (fresh_in text (strict plain)) nodes →
-      IsStrictDocument text root value → value_at nodes 0 ≡ value
-  strict-only nodes root value all d =
-      walk-value text (fresh_in text (strict plain)) root value nodes all (strict_document-comes text root value d) d.whole.reads.has_tree
+      IsStrictDocument text root value → first_value nodes ≡ value
+  strict-only nodes root value all d = nodes-value text root value nodes (strict_nodes-only nodes all root value d) d.whole.reads.has_tree
 
   strict_by : (nodes : List DocumentNode) → AddsAll (fresh_in text (strict plain)) nodes → strictly.StrictRootComes text →
-      (root : Node) × IsStrictDocument text root (value_at nodes 0)
+      (root : Node) × IsStrictDocument text root (first_value nodes)
   strict_by nodes all (strictly.document_comes root value d comes) =
       (root, subst (IsStrictDocument text root) (sym (strict-only nodes root value all d)) d)
   strict_by nodes all (strictly.no_document_comes events here rest none comes) =
       absurd (no_end text events all.events here rest (sym comes ∙ all.comes))
 
   pub strict-read : (nodes : List DocumentNode) → AddsAll (fresh_in text (strict plain)) nodes →
-      (root : Node) × IsStrictDocument text root (value_at nodes 0)
+      (root : Node) × IsStrictDocument text root (first_value nodes)
   strict-read nodes all = strict_by nodes all (strict_input-comes text)

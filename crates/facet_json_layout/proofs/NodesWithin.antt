@@ -20,7 +20,7 @@ use Rattle.facet_json_tree.proofs.BeyondEvents.{stuck-beyond}
 use Rattle.facet_json_tree.proofs.DepthOfNodes.{none-shallow, shallow-none}
 use Rattle.facet_json_tree.proofs.WalkWithin.{comes-beyond}
 use Rattle.facet_json_layout.specs.Formatted.{GetsStuck, GetsStuckWithin, as_ever, opens_beyond}
-use Rattle.facet_json_layout.specs.Nodes.{Node as DocumentNode, value_at}
+use Rattle.facet_json_layout.specs.Nodes.{Node as DocumentNode, first_value}
 use Rattle.facet_json_layout.specs.Inner.Building.{AddsAll}
 use Rattle.facet_json_layout.proofs.NodesRead.{value-read, strict-read}
 use Rattle.facet_json_layout.proofs.OneDocuments.{breaks-off, document-lacks, strict-lacks, stuck-same}
@@ -49,7 +49,7 @@ module _ (text : List ℕ) (mode : Mode) (depth : ℕ) where
   same root value d = comes-beyond text depth root value d.reads.has_tree _ (document-comes text mode root value d)
 
   pub read-within : (nodes : List DocumentNode) → AddsAll (fresh text mode) nodes → beyond (future_of (fresh text mode)) (Some depth) ≡ None →
-      (root : Node) × IsDocument text mode root (value_at nodes 0) × (depth_of root ≤ depth)
+      (root : Node) × IsDocument text mode root (first_value nodes) × (depth_of root ≤ depth)
   read-within nodes all none =
       let d = value-read text mode nodes all in (d.0, d.1, none-shallow depth d.0 (sym (same d.0 _ d.1) ∙ none))
 
@@ -95,7 +95,7 @@ module _ (text : List ℕ) (depth : ℕ) where
   strictly root value d = comes-beyond text depth root value d.whole.reads.has_tree _ (strict_document-comes text root value d)
 
   pub strict_read-within : (nodes : List DocumentNode) → AddsAll start nodes → beyond (future_of start) (Some depth) ≡ None →
-      (root : Node) × IsStrictDocument text root (value_at nodes 0) × (depth_of root ≤ depth)
+      (root : Node) × IsStrictDocument text root (first_value nodes) × (depth_of root ≤ depth)
   strict_read-within nodes all none =
       let d = strict-read text nodes all in (d.0, d.1, none-shallow depth d.0 (sym (strictly d.0 _ d.1) ∙ none))
 

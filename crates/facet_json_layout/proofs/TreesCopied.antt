@@ -4,9 +4,10 @@ use Rattle.std.proofs.lemmas.List.{append-nil}
 use Rattle.facet_json_document.specs.Tree.{Tree, Trees, no_trees, tree, Pairs, no_pairs, pair}
 use Rattle.facet_json_tree.specs.Views.{tree_view, trees_view, pairs_view}
 use Rattle.facet_json_tree.specs.declared.tree.Tree.{Tree as RustTree}
-use Rattle.facet_json_layout.specs.Nodes.{items, members, trees_list, pairs_list, value_at, nodes_of, value_view}
-use Rattle.facet_json_layout.specs.Inner.Looking.{from, IsItem, MemberStands}
+use Rattle.facet_json_layout.specs.Nodes.{items, members, trees_list, pairs_list, first_value, value_view}
+use Rattle.facet_json_layout.specs.Inner.Looking.{from, trees_from, pairs_from, trees_at, pairs_at, IsItem, MemberStands}
 use Rattle.facet_json_layout.specs.declared.document.value.Value.{Value}
+use Rattle.facet_json_layout.proofs.NodesSeen.{nodes-at, tree-first, pair-first}
 
 -- a member that was copied
 abbrev pub member_seen : String Global × RustTree → List ℕ × Tree
@@ -14,28 +15,27 @@ member_seen m = (string_bytes m.0, tree_view m.1)
 
 -- These were copied, and others are left.
 abbrev pub ItemsCopied : Value → List RustTree → ℕ → Type 0
-ItemsCopied v copies at = trees_list (items 0 (from v (suc v.index))) ≡ map tree_view copies ++ trees_list (items 0 (from v at))
+ItemsCopied v copies at = trees_list (trees_at v (suc v.index)) ≡ map tree_view copies ++ trees_list (trees_at v at)
 
 abbrev pub MembersCopied : Value → List (String Global × RustTree) → ℕ → Type 0
-MembersCopied v copies at = pairs_list (members 0 (from v (suc v.index))) ≡ map member_seen copies ++ pairs_list (members 0 (from v at))
+MembersCopied v copies at = pairs_list (pairs_at v (suc v.index)) ≡ map member_seen copies ++ pairs_list (pairs_at v at)
 
 one-more : {X Y : Type 0} (f : X → Y) (xs : List X) (x : X) (y : Y) (rest : List Y) → f x ≡ y → map f xs ++ y ∷ rest ≡ map f (xs ++ x ∷ []) ++ rest
 one-more f [] x y rest e = ap (λ z. z ∷ rest) (sym e)
 one-more f (z ∷ xs) x y rest e = ap (λ l. f z ∷ l) (one-more f xs x y rest e)
 
 pub item-copied : (v w : Value) (copies : List RustTree) (at to : ℕ) (copy : RustTree) → ItemsCopied v copies at → IsItem v at to →
-    tree_view copy ≡ value_view w → nodes_of w ≡ nodes_of v → w.index ≡ at → ItemsCopied v (copies ++ copy ∷ []) to
+    tree_view copy ≡ value_view w → w.document.now ≡ v.document.now → w.index ≡ at → ItemsCopied v (copies ++ copy ∷ []) to
 item-copied v w copies at to copy so item same nodes index =
-    let seen : tree_view copy ≡ value_at (nodes_of v) at = same ∙ ap₂ value_at nodes index in
-    so ∙ ap (λ ts. map tree_view copies ++ trees_list ts) item.are ∙ one-more tree_view copies copy _ _ seen
+    let seen : tree_view copy ≡ first_value (from v at) = same ∙ ap first_value (nodes-at v w at nodes index) in
+    so ∙ ap (λ ts. map tree_view copies ++ trees_list ts) (tree-first v at to item) ∙ one-more tree_view copies copy _ _ seen
 
 pub member-copied : (v w : Value) (copies : List (String Global × RustTree)) (at behind to : ℕ) (name : List ℕ) (text : String Global)
     (copy : RustTree) → MembersCopied v copies at → MemberStands v at name to → string_bytes text ≡ name → tree_view copy ≡ value_view w →
-    nodes_of w ≡ nodes_of v → w.index ≡ behind → behind ≡ suc at → MembersCopied v (copies ++ (text, copy) ∷ []) to
+    w.document.now ≡ v.document.now → w.index ≡ behind → behind ≡ suc at → MembersCopied v (copies ++ (text, copy) ∷ []) to
 member-copied v w copies at behind to name text copy so member named same nodes index b =
-    let seen : tree_view copy ≡ value_at (nodes_of v) (suc at) =
-    same ∙ ap₂ value_at nodes (index ∙ b) in
-    so ∙ ap (λ ps. map member_seen copies ++ pairs_list ps) member.are
+    let seen : tree_view copy ≡ first_value (from v (suc at)) = same ∙ ap first_value (nodes-at v w (suc at) nodes (index ∙ b)) in
+    so ∙ ap (λ ps. map member_seen copies ++ pairs_list ps) (pair-first v at to name member)
     ∙ one-more member_seen copies (text, copy) _ _ (ap₂ (λ n t. (n, t)) named seen)
 
 all-items : (copies : List RustTree) (ts : Trees) → trees_list ts ≡ map tree_view copies → trees_view copies ≡ ts
@@ -57,12 +57,12 @@ all-members ((text, copy) ∷ copies) (pair name t ps) e =
     ap₂ (λ n u. pair n u (pairs_view copies)) (sym (ap (λ m. m.0) first)) (sym (ap (λ m. m.1) first)) ∙ ap (pair name t) (all-members copies ps more)
 
 -- Where none is left, all were copied.
-pub items-copied : (v : Value) (copies : List RustTree) (at : ℕ) → ItemsCopied v copies at → items 0 (from v at) ≡ no_trees →
-    trees_view copies ≡ items 0 (from v (suc v.index))
+pub items-copied : (v : Value) (copies : List RustTree) (at : ℕ) → ItemsCopied v copies at → items 0 (from v at) ≡ [] →
+    trees_view copies ≡ trees_at v (suc v.index)
 items-copied v copies at so none =
-    all-items copies _ (so ∙ ap (λ ts. map tree_view copies ++ trees_list ts) none ∙ append-nil (map tree_view copies))
+    all-items copies _ (so ∙ ap (λ xs. map tree_view copies ++ trees_list (trees_from xs)) none ∙ append-nil (map tree_view copies))
 
-pub members-copied : (v : Value) (copies : List (String Global × RustTree)) (at : ℕ) → MembersCopied v copies at → members 0 (from v at) ≡ no_pairs →
-    pairs_view copies ≡ members 0 (from v (suc v.index))
+pub members-copied : (v : Value) (copies : List (String Global × RustTree)) (at : ℕ) → MembersCopied v copies at → members 0 (from v at) ≡ [] →
+    pairs_view copies ≡ pairs_at v (suc v.index)
 members-copied v copies at so none =
-    all-members copies _ (so ∙ ap (λ ps. map member_seen copies ++ pairs_list ps) none ∙ append-nil (map member_seen copies))
+    all-members copies _ (so ∙ ap (λ ms. map member_seen copies ++ pairs_list (pairs_from ms)) none ∙ append-nil (map member_seen copies))

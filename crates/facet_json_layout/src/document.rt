@@ -7,7 +7,7 @@ ghost use Rattle.facet_json_token.specs.Views.{mode_of};
 ghost use Rattle.facet_json_document.specs.Language.{strict};
 ghost use Rattle.facet_json_document.specs.Now.{fresh, fresh_in, future_of};
 ghost use Rattle.facet_json_layout.specs.Inner.Building.{AddsAll};
-ghost use Rattle.facet_json_layout.specs.Nodes.{document_view, nodes_view, value_view};
+ghost use Rattle.facet_json_layout.specs.Nodes.{document_nodes, document_view, nodes_from, as_nodes, nodes_view, value_view};
 ghost use Rattle.facet_json_document.specs.Document.{IsDocument};
 ghost use Rattle.facet_json_document.specs.Node.{Node as Root};
 ghost use Rattle.facet_json_document.specs.PrefixRefusal.{Refuses};
@@ -37,6 +37,8 @@ pub use value::Value;
 
 /// A document in one list of nodes. Texts without escapes lie in the input.
 pub struct Document<'i> {
+    /// The bytes of which it was read.
+    input: &'i [u8],
     /// A node for each value, key and container's end, in the order in which they stand.
     nodes: Vec<Node<'i>>,
     /// What no node holds itself: decimals, texts and names with escapes, and numbers past 64 bits.
@@ -46,7 +48,11 @@ pub struct Document<'i> {
 /// By a call, so that a proof about a function that owns a document need not take it apart.
 impl Drop for Document<'_> {
     fn drop(self) {
-        let Document { nodes: _, held: _ } = self;
+        let Document {
+            input: _,
+            nodes: _,
+            held: _,
+        } = self;
     }
 }
 
@@ -64,13 +70,14 @@ impl<'i> Document<'i> {
     /// The bytes begin with no document, and are refused as by `tree_from_slice`: a span is an offset and a length in bytes. Or out of memory.
     pub fn parse<'t>(alloc: Global, input: &'i [u8]) -> Result<Document<'i>, DeserializeError<'t>>
         ensures document { IfOk result (λ d. (root : Root) × IsDocument input.now plain root (document_view d)) }
+        ensures nodes { (root : Root) (value : Tree) → IsDocument input.now plain root value → IfOk result (λ d. document_nodes d ≡ as_nodes input.now root) }
         ensures refused { IfErr result (λ e. LacksMemory (refusal_of e) ⊎ Refuses input.now plain (refusal_of e)) }
         ensures only { (root : Root) (value : Tree) → IsDocument input.now plain root value
             → MatchResult result (λ d. document_view d ≡ value) (λ e. LacksMemory (refusal_of e)) }
         ensures within { IfErr result (λ e. RefusalWithin input.now (refusal_of e)) }
     {
         let (nodes, held) = lenient_nodes(alloc, input, Mode::Plain, None)?;
-        Ok(Document { nodes, held })
+        Ok(Document { input, nodes, held })
     }
 
     /// Reads as `parse`, where comments may stand wherever white space may.
@@ -87,13 +94,14 @@ impl<'i> Document<'i> {
         input: &'i [u8],
     ) -> Result<Document<'i>, DeserializeError<'t>>
         ensures document { IfOk result (λ d. (root : Root) × IsDocument input.now jsonc root (document_view d)) }
+        ensures nodes { (root : Root) (value : Tree) → IsDocument input.now jsonc root value → IfOk result (λ d. document_nodes d ≡ as_nodes input.now root) }
         ensures refused { IfErr result (λ e. LacksMemory (refusal_of e) ⊎ Refuses input.now jsonc (refusal_of e)) }
         ensures only { (root : Root) (value : Tree) → IsDocument input.now jsonc root value
             → MatchResult result (λ d. document_view d ≡ value) (λ e. LacksMemory (refusal_of e)) }
         ensures within { IfErr result (λ e. RefusalWithin input.now (refusal_of e)) }
     {
         let (nodes, held) = lenient_nodes(alloc, input, Mode::Jsonc, None)?;
-        Ok(Document { nodes, held })
+        Ok(Document { input, nodes, held })
     }
 
     /// Reads one text of RFC 8259, with white space alone around it, as `tree_from_slice_strict` does.
@@ -111,13 +119,14 @@ impl<'i> Document<'i> {
         input: &'i [u8],
     ) -> Result<Document<'i>, DeserializeError<'t>>
         ensures document { IfOk result (λ d. (root : Root) × IsStrictDocument input.now root (document_view d)) }
+        ensures nodes { (root : Root) (value : Tree) → IsStrictDocument input.now root value → IfOk result (λ d. document_nodes d ≡ as_nodes input.now root) }
         ensures refused { IfErr result (λ e. LacksOrGetsStuck input.now (refusal_of e)) }
         ensures only { (root : Root) (value : Tree) → IsStrictDocument input.now root value
             → MatchResult result (λ d. document_view d ≡ value) (λ e. LacksMemory (refusal_of e)) }
         ensures within { IfErr result (λ e. RefusalWithin input.now (refusal_of e)) }
     {
         let (nodes, held) = strict_nodes(alloc, input, None)?;
-        Ok(Document { nodes, held })
+        Ok(Document { input, nodes, held })
     }
 
     /// Reads as `parse`, where the document nests no deeper than `depth`, as `tree_from_slice_within` does: an array or object counts one, and one
@@ -139,6 +148,7 @@ impl<'i> Document<'i> {
         depth: usize,
     ) -> Result<Document<'i>, DeserializeError<'t>>
         ensures document { IfOk result (λ d. (root : Root) × IsDocument input.now plain root (document_view d) × (depth_of root ≤ depth)) }
+        ensures nodes { (root : Root) (value : Tree) → IsDocument input.now plain root value → IfOk result (λ d. document_nodes d ≡ as_nodes input.now root) }
         ensures only { (root : Root) (value : Tree) → IsDocument input.now plain root value → depth_of root ≤ depth
             → MatchResult result (λ d. document_view d ≡ value) (λ e. LacksMemory (refusal_of e)) }
         ensures deeper { (root : Root) (value : Tree) (s : Span) → IsDocument input.now plain root value → first_beyond depth root ≡ Some s
@@ -147,7 +157,7 @@ impl<'i> Document<'i> {
         ensures within { IfErr result (λ e. RefusalWithin input.now (refusal_of e)) }
     {
         let (nodes, held) = lenient_nodes(alloc, input, Mode::Plain, Some(depth))?;
-        Ok(Document { nodes, held })
+        Ok(Document { input, nodes, held })
     }
 
     /// Reads as `parse_jsonc`, where the document nests no deeper than `depth`, which counts as in `parse_within`. A bracket within a comment counts
@@ -170,11 +180,12 @@ impl<'i> Document<'i> {
         ensures deeper { (root : Root) (value : Tree) (s : Span) → IsDocument input.now jsonc root value → first_beyond depth root ≡ Some s
             → MatchResult result (λ _. ⊥) (λ e. LacksMemory (refusal_of e) ⊎ (refusal_of e ≡ too_deep_at s)) }
         ensures document { IfOk result (λ d. (root : Root) × IsDocument input.now jsonc root (document_view d) × (depth_of root ≤ depth)) }
+        ensures nodes { (root : Root) (value : Tree) → IsDocument input.now jsonc root value → IfOk result (λ d. document_nodes d ≡ as_nodes input.now root) }
         ensures only { (root : Root) (value : Tree) → IsDocument input.now jsonc root value → depth_of root ≤ depth
             → MatchResult result (λ d. document_view d ≡ value) (λ e. LacksMemory (refusal_of e)) }
     {
         let (nodes, held) = lenient_nodes(alloc, input, Mode::Jsonc, Some(depth))?;
-        Ok(Document { nodes, held })
+        Ok(Document { input, nodes, held })
     }
 
     /// Reads as `parse_strict`, where the text nests no deeper than `depth`, which counts as in `parse_within`.
@@ -192,6 +203,7 @@ impl<'i> Document<'i> {
         depth: usize,
     ) -> Result<Document<'i>, DeserializeError<'t>>
         ensures document { IfOk result (λ d. (root : Root) × IsStrictDocument input.now root (document_view d) × (depth_of root ≤ depth)) }
+        ensures nodes { (root : Root) (value : Tree) → IsStrictDocument input.now root value → IfOk result (λ d. document_nodes d ≡ as_nodes input.now root) }
         ensures only { (root : Root) (value : Tree) → IsStrictDocument input.now root value → depth_of root ≤ depth
             → MatchResult result (λ d. document_view d ≡ value) (λ e. LacksMemory (refusal_of e)) }
         ensures deeper { (root : Root) (value : Tree) (s : Span) → IsStrictDocument input.now root value → first_beyond depth root ≡ Some s
@@ -200,7 +212,7 @@ impl<'i> Document<'i> {
         ensures within { IfErr result (λ e. RefusalWithin input.now (refusal_of e)) }
     {
         let (nodes, held) = strict_nodes(alloc, input, Some(depth))?;
-        Ok(Document { nodes, held })
+        Ok(Document { input, nodes, held })
     }
 
     /// The document's value.
@@ -209,9 +221,10 @@ impl<'i> Document<'i> {
     /// of [1]: root().item(0)    Some: 1
     /// ```
     pub fn root(&self) -> Value<'_, 'i>
-        ensures { value_view result ≡ document_view self.now }
+        ensures nodes { nodes_from result ≡ document_nodes self.now }
+        ensures value { value_view result ≡ document_view self.now }
     {
-        Value::at(self.nodes.as_slice(), self.held.as_slice(), 0)
+        Value::at(self, 0)
     }
 }
 
@@ -222,14 +235,19 @@ fn lenient_nodes<'i, 't>(
     mode: Mode,
     depth: Option<usize>,
 ) -> Result<(Vec<Node<'i>>, Vec<ScalarValue<'i>>), DeserializeError<'t>>
-    ensures nodes { IfOk result (λ v. AddsAll (fresh input.now (mode_of mode)) (nodes_view v.1.items v.0.items)) }
+    ensures nodes { IfOk result (λ v. AddsAll (fresh input.now (mode_of mode)) (nodes_view input.now v.1.items v.0.items)) }
     ensures shallow { OnOk result (beyond (future_of (fresh input.now (mode_of mode))) depth ≡ None) }
     ensures refused { IfErr result (λ e. LacksMemory (refusal_of e) ⊎ GetsStuckWithin depth (fresh input.now (mode_of mode)) (refusal_of e)) }
     ensures within { IfErr result (λ e. RefusalWithin input.now (refusal_of e)) }
 {
     match mode {
-        Mode::Plain => build(alloc, &mut JsonParser::new(alloc, input), depth),
-        Mode::Jsonc => build(alloc, &mut JsonParser::new_jsonc(alloc, input), depth),
+        Mode::Plain => build(alloc, input, &mut JsonParser::new(alloc, input), depth),
+        Mode::Jsonc => build(
+            alloc,
+            input,
+            &mut JsonParser::new_jsonc(alloc, input),
+            depth,
+        ),
     }
 }
 
@@ -239,10 +257,15 @@ fn strict_nodes<'i, 't>(
     input: &'i [u8],
     depth: Option<usize>,
 ) -> Result<(Vec<Node<'i>>, Vec<ScalarValue<'i>>), DeserializeError<'t>>
-    ensures nodes { IfOk result (λ v. AddsAll (fresh_in input.now (strict plain)) (nodes_view v.1.items v.0.items)) }
+    ensures nodes { IfOk result (λ v. AddsAll (fresh_in input.now (strict plain)) (nodes_view input.now v.1.items v.0.items)) }
     ensures shallow { OnOk result (beyond (future_of (fresh_in input.now (strict plain))) depth ≡ None) }
     ensures refused { IfErr result (λ e. LacksMemory (refusal_of e) ⊎ GetsStuckWithin depth (fresh_in input.now (strict plain)) (refusal_of e)) }
     ensures within { IfErr result (λ e. RefusalWithin input.now (refusal_of e)) }
 {
-    build(alloc, &mut JsonParser::new_strict(alloc, input), depth)
+    build(
+        alloc,
+        input,
+        &mut JsonParser::new_strict(alloc, input),
+        depth,
+    )
 }

@@ -6,7 +6,7 @@ use Rattle.facet_json_layout.specs.declared.document.node.Node.TheVariants as no
 
 -- how many values have to be held, so that the node finds its own
 abbrev pub needed : Node → ℕ
-needed (node.Held at) = suc at
+needed (node.Held at s) = suc at
 needed (node.HeldKey at) = suc at
 needed _ = zero
 

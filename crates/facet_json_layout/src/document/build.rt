@@ -1,9 +1,9 @@
 //! Nodes of events.
 
-ghost use Rattle.std.specs.Prelude.{◌≡◌, ◌<◌, ◌⊎◌, ℕ, List, Err, true, false, Ok, Option, None, Some, IfOk, IfErr, IfSome, OnOk, MatchResult, length, reverse, set, slice_get};
+ghost use Rattle.std.specs.Prelude.{◌≡◌, ◌<◌, ◌≤◌, ◌⊎◌, ℕ, List, Err, true, false, Ok, Option, None, Some, IfOk, IfErr, IfSome, OnOk, MatchResult, length, reverse, set, slice_get};
 ghost use Rattle.facet_format.specs.Complaint.{no_memory};
 ghost use Rattle.facet_format.specs.Cursor.{event, next};
-ghost use Rattle.facet_format.specs.Span.{Span as SpecSpan};
+ghost use Rattle.facet_format.specs.Span.{Span as SpecSpan, stop};
 ghost use Rattle.facet_format.specs.Views.{refusal_of, event_kind_of, scalar_value_of, span_of};
 ghost use Rattle.facet_json_layout.specs.Inner.Held.{FindsHeld};
 ghost use Rattle.std.specs.Option.{unwrap_or};
@@ -11,6 +11,7 @@ ghost use Rattle.facet_format.specs.Event.{bytes_of};
 ghost use Rattle.facet_format.specs.HeldText.{text_of};
 ghost use Rattle.facet_format.specs.declared.event.ScalarValue.{ScalarValue as RustScalar};
 ghost use Rattle.facet_json_core.specs.Told.{tree_of_scalar};
+ghost use Rattle.facet_json_document.specs.Tree as trees;
 ghost use Rattle.facet_json_layout.specs.Inner.Building.{added, also, begun, closed, container, ended, built_view, none_yet, AddsNext, AddsAll, LeavesRoom, IsTooDeep, RefusesNext};
 ghost use Rattle.facet_json_tree.specs.Depth.{beyond_bracket, outer, too_deep_at, beyond};
 ghost use Rattle.facet_json_tree.specs.Inner.Beyond.{SameBeyond};
@@ -19,9 +20,9 @@ ghost use Rattle.facet_json_document.specs.Move.{Moves};
 ghost use Rattle.facet_json_document.specs.Now.{ahead, future_of};
 ghost use Rattle.facet_json_document.specs.UnreadLaws.{RefusalWithin};
 ghost use Rattle.facet_json_layout.specs.Formatted.{GetsStuckWithin};
-ghost use Rattle.facet_json_layout.specs.Nodes.{Node as SpecNode, leaf, key, list, object, closing, nothing, node_view, nodes_view};
+ghost use Rattle.facet_json_layout.specs.Nodes.{Node as SpecNode, leaf, key, list, object, closing, nothing, node_view, nodes_view, text_at};
 
-use crate::document::built::Built;
+use crate::document::built::{Built, Opened};
 use crate::document::node::Node;
 use facet_format::{
     ContainerKind, DeserializeError, DeserializeErrorKind, FormatParser, ParseEventKind,
@@ -34,15 +35,18 @@ use std::borrow::CowStr;
 /// The nodes of all events, of whose containers no more than `depth` stand within one another, where there is such a limit.
 pub(crate) fn build<'i, 't>(
     alloc: Global,
+    input: &'i [u8],
     parser: &mut JsonParser<'i>,
     depth: Option<usize>,
 ) -> Result<(Vec<Node<'i>>, Vec<ScalarValue<'i>>), DeserializeError<'t>>
-    ensures nodes { IfOk result (λ v. AddsAll parser.old (nodes_view v.1.items v.0.items)) }
+    requires { parser.old.buffer ≡ input.now }
+    ensures nodes { IfOk result (λ v. AddsAll parser.old (nodes_view input.now v.1.items v.0.items)) }
     ensures shallow { OnOk result (beyond (future_of parser.old) depth ≡ None) }
     ensures refused { parser.old.cursor.refusal ≡ None → IfErr result (λ e. LacksMemory (refusal_of e) ⊎ GetsStuckWithin depth parser.old (refusal_of e)) }
     ensures within { IfErr result (λ e. RefusalWithin parser.old.buffer (refusal_of e)) }
 {
     let mut built = Built {
+        input,
         held: Vec::new(alloc),
         nodes: Vec::new(alloc),
         unclosed: Vec::new(alloc),
@@ -57,6 +61,7 @@ impl<'i> Built<'i> {
     /// Passes the next event, adds its node, and says whether there was one.
     #[inline(always)]
     fn adds_event<'t>(&mut self, parser: &mut JsonParser<'i>) -> Result<bool, DeserializeError<'t>>
+        requires { parser.old.buffer ≡ self.old.input.now }
         ensures added { IfOk result (λ some. AddsNext some parser.old parser.new (built_view self.old) (built_view self.new)) }
         ensures level { result ≡ Ok true → SameBeyond (future_of parser.old) self.old.room (future_of parser.new) self.new.room }
         ensures refused { IfErr result (λ e. LacksMemory (refusal_of e) ⊎ RefusesNext self.old.room parser.old parser.new (refusal_of e)) }
@@ -66,9 +71,7 @@ impl<'i> Built<'i> {
     {
         match parser.next_event()? {
             Some(event) => {
-                let room = room_after(&event.kind, event.span, self.room)?;
-                self.add(event.kind)?;
-                self.room = room;
+                self.add(event.kind, event.span)?;
                 Ok(true)
             }
             None => Ok(false),
@@ -76,42 +79,76 @@ impl<'i> Built<'i> {
     }
 
     /// Adds the node of an event.
+    ///
+    /// # Errors
+    ///
+    /// A bracket where no more may be opened: `InvalidValue`, its span the bracket's. Or out of memory.
     #[inline(always)]
-    fn add(&mut self, kind: ParseEventKind<'i>) -> Result<(), AllocError>
-        ensures { OnOk result (built_view self.new ≡ added (event_kind_of kind.entry) (built_view self.old)) }
+    fn add<'t>(&mut self, kind: ParseEventKind<'i>, span: Span) -> Result<(), DeserializeError<'t>>
+        requires { stop (span_of span) ≤ length self.old.input.now }
+        ensures added { OnOk result (built_view self.new ≡ added (event_kind_of kind.entry) (span_of span) (built_view self.old)) }
+        ensures left { OnOk result (LeavesRoom self.old.room (event_kind_of kind.entry) (span_of span) self.new.room) }
+        ensures refused { IfErr result (λ e. LacksMemory (refusal_of e) ⊎ IsTooDeep self.old.room (event_kind_of kind.entry) (span_of span) (refusal_of e)) }
+        ensures span { IfErr result (λ e. IfSome e.span (λ s. s ≡ span)) }
     {
         match kind {
-            ParseEventKind::Scalar(value) => self.add_leaf(value),
-            ParseEventKind::FieldKey(key) => self.add_key(key.name),
-            ParseEventKind::SequenceStart(_) => self.begin(Node::List(0)),
-            ParseEventKind::StructStart(_) => self.begin(Node::Object(0)),
-            ParseEventKind::SequenceEnd => self.end(ContainerKind::Array),
-            ParseEventKind::StructEnd => self.end(ContainerKind::Object),
+            ParseEventKind::Scalar(value) => self.add_leaf(value, span)?,
+            ParseEventKind::FieldKey(key) => self.add_key(key.name)?,
+            ParseEventKind::SequenceStart(_) => self.begin(Node::List(0, span), span)?,
+            ParseEventKind::StructStart(_) => self.begin(Node::Object(0, span), span)?,
+            ParseEventKind::SequenceEnd => self.end(ContainerKind::Array, span)?,
+            ParseEventKind::StructEnd => self.end(ContainerKind::Object, span)?,
         }
+        Ok(())
     }
 
     /// Adds the node of a value that holds no others.
     #[inline(always)]
-    fn add_leaf(&mut self, value: ScalarValue<'i>) -> Result<(), AllocError>
-        ensures { OnOk result (built_view self.new ≡ also (leaf (unwrap_or (tree_of_scalar (scalar_value_of value.entry)) nothing)) (built_view self.old)) }
+    fn add_leaf(&mut self, value: ScalarValue<'i>, span: Span) -> Result<(), AllocError>
+        ensures room { self.new.room ≡ self.old.room }
+        ensures node { OnOk result (built_view self.new
+            ≡ also (leaf (text_at self.old.input.now (span_of span)) (unwrap_or (tree_of_scalar (scalar_value_of value.entry)) nothing)) (built_view self.old)) }
     {
         match value {
-            ScalarValue::Null => self.also(Node::Null),
-            ScalarValue::Bool(b) => self.also(Node::Bool(b)),
-            ScalarValue::I64(n) => self.also(Node::I64(n)),
-            ScalarValue::U64(n) => self.also(Node::U64(n)),
-            ScalarValue::Str(CowStr::Borrowed(text)) => self.also(Node::Text(text)),
-            other => {
-                let at = self.hold(other)?;
-                self.also(Node::Held(at))
-            }
+            ScalarValue::Null => self.also(Node::Null(span)),
+            ScalarValue::Bool(b) => self.also(Node::Bool(b, span)),
+            ScalarValue::I64(n) => self.also(Node::I64(n, span)),
+            ScalarValue::U64(n) => self.also(Node::U64(n, span)),
+            ScalarValue::Str(CowStr::Borrowed(text)) => self.add_text(text, span),
+            other => self.add_held(other, span),
         }
+    }
+
+    /// Adds the node of a text in the input. Between its quotes it is as long as the bytes that it stands for, so that the node need not tell.
+    #[inline(always)]
+    fn add_text(&mut self, text: &'i str, span: Span) -> Result<(), AllocError>
+        ensures room { self.new.room ≡ self.old.room }
+        ensures node { OnOk result (built_view self.new
+            ≡ also (leaf (text_at self.old.input.now (span_of span)) (trees.text text.now)) (built_view self.old)) }
+    {
+        if text.len() + 2 == span.len {
+            self.also(Node::Text(text, span.offset))
+        } else {
+            self.add_held(ScalarValue::Str(CowStr::Borrowed(text)), span)
+        }
+    }
+
+    /// Adds the node of a value that no node holds itself.
+    #[inline(always)]
+    fn add_held(&mut self, value: ScalarValue<'i>, span: Span) -> Result<(), AllocError>
+        ensures room { self.new.room ≡ self.old.room }
+        ensures node { OnOk result (built_view self.new
+            ≡ also (leaf (text_at self.old.input.now (span_of span)) (unwrap_or (tree_of_scalar (scalar_value_of value.entry)) nothing)) (built_view self.old)) }
+    {
+        let at = self.hold(value)?;
+        self.also(Node::Held(at, span))
     }
 
     /// Adds the node of a member's name.
     #[inline(always)]
     fn add_key(&mut self, name: CowStr<'i>) -> Result<(), AllocError>
-        ensures { OnOk result (built_view self.new ≡ also (key (bytes_of (text_of name.entry))) (built_view self.old)) }
+        ensures room { self.new.room ≡ self.old.room }
+        ensures node { OnOk result (built_view self.new ≡ also (key (bytes_of (text_of name.entry))) (built_view self.old)) }
     {
         match name {
             CowStr::Borrowed(text) => self.also(Node::Key(text)),
@@ -126,6 +163,7 @@ impl<'i> Built<'i> {
     #[inline(always)]
     fn hold(&mut self, value: ScalarValue<'i>) -> Result<usize, AllocError>
         ensures same { OnOk result (built_view self.new ≡ built_view self.old) }
+        ensures room { self.new.room ≡ self.old.room }
         ensures held { IfOk result (λ at. (at < length self.new.held.items) × (slice_get self.new.held.items at ≡ Some value.entry)) }
     {
         let at = self.held.len();
@@ -133,36 +171,54 @@ impl<'i> Built<'i> {
         Ok(at)
     }
 
-    /// Adds the node of a container that begins.
+    /// Adds the node of a container that begins with this bracket.
     #[inline(always)]
-    fn begin(&mut self, node: Node<'i>) -> Result<(), AllocError>
+    fn begin<'t>(&mut self, node: Node<'i>, first: Span) -> Result<(), DeserializeError<'t>>
         requires { FindsHeld self.old.held.items node }
-        ensures { OnOk result (built_view self.new ≡ begun (node_view self.old.held.items node.entry) (built_view self.old)) }
+        ensures begun { OnOk result
+            (built_view self.new ≡ begun first.offset (node_view self.old.input.now self.old.held.items node.entry) (built_view self.old)) }
+        ensures left { OnOk result ((others : Option ℕ → Option SpecSpan) → beyond_bracket (span_of first) others self.old.room ≡ others self.new.room) }
+        ensures refused { IfErr result (λ e. LacksMemory (refusal_of e) ⊎ ((self.old.room ≡ Some 0) × (refusal_of e ≡ too_deep_at (span_of first)))) }
+        ensures span { IfErr result (λ e. IfSome e.span (λ s. s ≡ first)) }
     {
-        self.unclosed.push(self.nodes.len())?;
-        self.also(node)
+        self.room = room_within(first, self.room)?;
+        let index = self.nodes.len();
+        let offset = first.offset;
+        self.unclosed.push(Opened { index, offset })?;
+        self.also(node)?;
+        Ok(())
     }
 
-    /// Adds the node of the innermost container's end.
+    /// Adds the node of the innermost container's end, which is this token.
     #[inline(always)]
-    fn end(&mut self, kind: ContainerKind) -> Result<(), AllocError>
-        ensures { OnOk result (built_view self.new ≡ ended (container kind) (built_view self.old)) }
+    fn end<'t>(&mut self, kind: ContainerKind, last: Span) -> Result<(), DeserializeError<'t>>
+        requires { stop (span_of last) ≤ length self.old.input.now }
+        ensures ended { OnOk result (built_view self.new ≡ ended (container kind) (stop (span_of last)) (built_view self.old)) }
+        ensures left { OnOk result (self.new.room ≡ outer self.old.room) }
+        ensures refused { IfErr result (λ e. refusal_of e ≡ no_memory) }
+        ensures span { IfErr result (λ e. IfSome e.span (λ s. s ≡ last)) }
     {
-        self.close(kind);
-        self.also(Node::End)
+        self.room = room_behind(self.room)?;
+        self.close(kind, last);
+        self.also(Node::End)?;
+        Ok(())
     }
 
-    /// Takes the innermost container off those that are not closed, and writes into its node how many belong to it.
+    /// Takes the innermost container off those that are not closed, and writes into its node where it stands and how many belong to it.
     #[inline(always)]
-    fn close(&mut self, kind: ContainerKind)
-        ensures { built_view self.new ≡ closed (container kind) (nodes_view self.old.held.items self.old.nodes.items) (reverse self.old.unclosed.items) }
+    fn close(&mut self, kind: ContainerKind, last: Span)
+        requires { stop (span_of last) ≤ length self.old.input.now }
+        ensures closed { built_view self.new ≡ closed (container kind) (stop (span_of last)) (built_view self.old) }
+        ensures room { self.new.room ≡ self.old.room }
     {
-        let Some(start) = self.unclosed.pop() else {
+        let Some(opened) = self.unclosed.pop() else {
             return;
         };
         let len = self.nodes.len();
-        if start < len {
-            put(&mut self.nodes, start, container_node(kind, len - start));
+        if opened.index < len {
+            let span = Span::new(opened.offset, last.end().saturating_sub(opened.offset));
+            let node = container_node(kind, len - opened.index, span);
+            put(&mut self.nodes, opened.index, node);
         }
     }
 
@@ -170,35 +226,11 @@ impl<'i> Built<'i> {
     #[inline(always)]
     fn also(&mut self, node: Node<'i>) -> Result<(), AllocError>
         requires { FindsHeld self.old.held.items node }
-        ensures { OnOk result (built_view self.new ≡ also (node_view self.old.held.items node.entry) (built_view self.old)) }
+        ensures node { OnOk result (built_view self.new ≡ also (node_view self.old.input.now self.old.held.items node.entry) (built_view self.old)) }
+        ensures room { self.new.room ≡ self.old.room }
     {
         self.nodes.push(node)?;
         Ok(())
-    }
-}
-
-/// How many more containers may be opened after an event of this kind, where there is a limit.
-///
-/// # Errors
-///
-/// A bracket where no more may be opened: `InvalidValue`, its span the bracket's.
-#[inline(always)]
-fn room_after<'t>(
-    kind: &ParseEventKind<'_>,
-    span: Span,
-    room: Option<usize>,
-) -> Result<Option<usize>, DeserializeError<'t>>
-    ensures left { IfOk result (λ left. LeavesRoom room (event_kind_of kind.now) (span_of span) left) }
-    ensures refused { IfErr result (λ e. LacksMemory (refusal_of e) ⊎ IsTooDeep room (event_kind_of kind.now) (span_of span) (refusal_of e)) }
-    ensures span { IfErr result (λ e. IfSome e.span (λ s. s ≡ span)) }
-{
-    match kind {
-        ParseEventKind::SequenceStart(_) => room_within(span, room),
-        ParseEventKind::StructStart(_) => room_within(span, room),
-        ParseEventKind::SequenceEnd => room_behind(room),
-        ParseEventKind::StructEnd => room_behind(room),
-        ParseEventKind::FieldKey(_) => Ok(room),
-        ParseEventKind::Scalar(_) => Ok(room),
     }
 }
 
@@ -248,14 +280,14 @@ fn put<'i>(nodes: &mut Vec<Node<'i>>, at: usize, node: Node<'i>)
     nodes[at] = node;
 }
 
-/// The node of a container that so many of the next nodes belong to.
+/// The node of a container that stands there, and that so many of the next nodes belong to.
 #[inline(always)]
-fn container_node<'i>(kind: ContainerKind, inner: usize) -> Node<'i>
-    ensures node { (held : List RustScalar) → node_view held result ≡ container kind inner }
+fn container_node<'i>(kind: ContainerKind, inner: usize, span: Span) -> Node<'i>
+    ensures node { (input : List ℕ) (held : List RustScalar) → node_view input held result ≡ container kind (text_at input (span_of span)) inner }
     ensures held { (held : List RustScalar) → FindsHeld held result }
 {
     match kind {
-        ContainerKind::Array => Node::List(inner),
-        ContainerKind::Object => Node::Object(inner),
+        ContainerKind::Array => Node::List(inner, span),
+        ContainerKind::Object => Node::Object(inner, span),
     }
 }

@@ -1,45 +1,40 @@
 //! The values of a document.
 
-ghost use Rattle.std.specs.Prelude.{◌≡◌, ◌<◌, ◌≤◌, suc, length, drop, option_map};
+ghost use Rattle.std.specs.Prelude.{◌≡◌, ◌<◌, ◌≤◌, suc, length, drop, option_map, slice_get};
 ghost use Rattle.std.specs.Int.{w64};
 ghost use Rattle.facet_format.specs.Event.{bytes_of};
+ghost use Rattle.facet_format.specs.Views.{span_of};
 ghost use Rattle.facet_json_tree.specs.Content as content;
 ghost use Rattle.facet_json_tree.specs.Content.{TellsUnsigned, TellsSigned};
-ghost use Rattle.facet_json_tree.specs.Lookup.{member, item, item_at, last_member};
-ghost use Rattle.facet_json_layout.specs.Nodes.{value_kind, value_view, node_view, nodes_of, nodes_view, inner_len, items, members, items_left, members_left, len, trees_len, pairs_len, trees_list, pairs_list};
-ghost use Rattle.facet_json_layout.specs.Inner.Looking.{IsLeaf, IsNodeAt, IsNextItem, IsMemberAt, from};
+ghost use Rattle.facet_json_tree.specs.Lookup.{member, item};
+ghost use Rattle.facet_json_layout.specs.Nodes.{value_kind, value_view, inner_len, items, members, items_left, members_left, item_nodes, item_nodes_left, list_items, last_named, len, member_nodes, member_nodes_left, object_members, nodes_from, pairs_list, raw_text, text_at, trees_list};
+ghost use Rattle.facet_json_layout.specs.Inner.Looking.{IsLeaf, IsNodeAt, IsNextItem, IsMemberAt, from, many, seen};
 
 mod copying;
 mod pointer;
 mod writing;
 
+use crate::document::Document;
 use crate::document::held::{Items, Members};
 use crate::document::node::{Leaf, Node, ValueKind};
-use facet_format::{Decimal, ScalarValue};
+use facet_format::{Decimal, Span};
 
 /// A value of a document: a place in it, which is copied freely.
 #[derive(Clone, Copy)]
 pub struct Value<'d, 'i> {
-    /// The document's nodes.
-    nodes: &'d [Node<'i>],
-    /// What no node holds itself.
-    held: &'d [ScalarValue<'i>],
+    /// The document.
+    document: &'d Document<'i>,
     /// The index of the value's node.
     index: usize,
 }
 
 impl<'d, 'i> Value<'d, 'i> {
-    /// The value whose node has this index.
-    pub(crate) fn at(
-        nodes: &'d [Node<'i>],
-        held: &'d [ScalarValue<'i>],
-        index: usize,
-    ) -> Value<'d, 'i>
-        ensures nodes { result.nodes.now ≡ nodes.now }
-        ensures seen { nodes_of result ≡ nodes_view held.now nodes.now }
+    /// The value of a document whose node has this index.
+    pub(crate) fn at(document: &'d Document<'i>, index: usize) -> Value<'d, 'i>
+        ensures same { result.document.now ≡ document.now }
         ensures index { result.index ≡ index }
     {
-        Value { nodes, held, index }
+        Value { document, index }
     }
 
     /// What the value is (RFC 8259, section 3).
@@ -51,7 +46,7 @@ impl<'d, 'i> Value<'d, 'i> {
         ensures { result ≡ value_kind (value_view self.now) }
     {
         match self.node(self.index) {
-            Some(node) => node.kind(self.held),
+            Some(node) => node.kind(self.document),
             None => ValueKind::Null,
         }
     }
@@ -148,6 +143,22 @@ impl<'d, 'i> Value<'d, 'i> {
         }
     }
 
+    /// The value's bytes in the input, from its first to its last: of a list or an object with all that stands between its brackets, white space
+    /// and comments too. A message can so be passed on, or read by another, as it came.
+    ///
+    /// ```text
+    /// of {"a": [1, 2.0 ], "b": "\u0061"}: get("a") and raw()    [1, 2.0 ]
+    /// get("b") and raw()                                       "\u0061"
+    /// ```
+    pub fn raw(&self) -> &'i [u8]
+        ensures { result.now ≡ raw_text (nodes_from self.now) }
+    {
+        match self.node(self.index) {
+            Some(node) => bytes_of_span(self.document.input, node.span()),
+            None => &[],
+        }
+    }
+
     /// The value of an object's member with this name: of several with one name the last counts, as a map reads them (RFC 8259, section 4). Other
     /// values have no members. The names are compared one by one, and what the members hold is passed at once.
     ///
@@ -156,7 +167,8 @@ impl<'d, 'i> Value<'d, 'i> {
     /// get("c")                                                None
     /// ```
     pub fn get(&self, key: &str) -> Option<Value<'d, 'i>>
-        ensures { option_map value_view result ≡ member key.now (value_view self.now) }
+        ensures nodes { option_map nodes_from result ≡ member_nodes key.now (nodes_from self.now) }
+        ensures value { option_map value_view result ≡ member key.now (value_view self.now) }
     {
         let node = self.node(self.index)?;
         if !node.is_object() {
@@ -173,7 +185,8 @@ impl<'d, 'i> Value<'d, 'i> {
     /// item(2)                                                 None
     /// ```
     pub fn item(&self, index: usize) -> Option<Value<'d, 'i>>
-        ensures { option_map value_view result ≡ item index (value_view self.now) }
+        ensures nodes { option_map nodes_from result ≡ item_nodes index (nodes_from self.now) }
+        ensures value { option_map value_view result ≡ item index (value_view self.now) }
     {
         let node = self.node(self.index)?;
         if !node.is_list() {
@@ -209,13 +222,14 @@ impl<'d, 'i> Value<'d, 'i> {
     /// of {}: items()                                          None
     /// ```
     pub fn items(&self) -> Option<Items<'d, 'i>>
-        ensures { option_map items_left result ≡ option_map trees_list (content.as_list (value_view self.now)) }
+        ensures nodes { option_map item_nodes_left result ≡ list_items (nodes_from self.now) }
+        ensures values { option_map items_left result ≡ option_map trees_list (content.as_list (value_view self.now)) }
     {
         let node = self.node(self.index)?;
         if !node.is_list() {
             return None;
         }
-        Some(Items::new(self.nodes, self.held, self.index + 1))
+        Some(Items::new(self.document, self.index + 1))
     }
 
     /// The members of an object, in order (RFC 8259, section 4). A name that comes twice stands twice.
@@ -225,19 +239,20 @@ impl<'d, 'i> Value<'d, 'i> {
     /// of []: members()                                        None
     /// ```
     pub fn members(&self) -> Option<Members<'d, 'i>>
-        ensures { option_map members_left result ≡ option_map pairs_list (content.as_pairs (value_view self.now)) }
+        ensures nodes { option_map member_nodes_left result ≡ object_members (nodes_from self.now) }
+        ensures values { option_map members_left result ≡ option_map pairs_list (content.as_pairs (value_view self.now)) }
     {
         let node = self.node(self.index)?;
         if !node.is_object() {
             return None;
         }
-        Some(Members::new(self.nodes, self.held, self.index + 1))
+        Some(Members::new(self.document, self.index + 1))
     }
 
     /// How many items a list has.
     fn items_len(&self) -> usize
-        requires { self.now.index < length self.now.nodes.now }
-        ensures { result ≡ trees_len (items 0 (from self.now (suc self.now.index))) }
+        requires { self.now.index < many self.now }
+        ensures { result ≡ length (items 0 (from self.now (suc self.now.index))) }
     {
         let mut at = self.index + 1;
         let mut len = 0;
@@ -250,8 +265,8 @@ impl<'d, 'i> Value<'d, 'i> {
 
     /// How many members an object has.
     fn members_len(&self) -> usize
-        requires { self.now.index < length self.now.nodes.now }
-        ensures { result ≡ pairs_len (members 0 (from self.now (suc self.now.index))) }
+        requires { self.now.index < many self.now }
+        ensures { result ≡ length (members 0 (from self.now (suc self.now.index))) }
     {
         let mut at = self.index + 1;
         let mut len = 0;
@@ -267,14 +282,14 @@ impl<'d, 'i> Value<'d, 'i> {
         ensures { IsLeaf (value_view self.now) result }
     {
         let node = self.node(self.index)?;
-        node.leaf(self.held)
+        node.leaf(self.document)
     }
 
     /// The node of this index.
     fn node(&self, at: usize) -> Option<&'d Node<'i>>
         ensures { IsNodeAt self.now at result }
     {
-        match self.nodes.get(at) {
+        match self.document.nodes.get(at) {
             Some(node) => Some(node),
             None => None,
         }
@@ -282,13 +297,13 @@ impl<'d, 'i> Value<'d, 'i> {
 
     /// The index after a node and those that belong to it.
     fn past(&self, at: usize, node: &Node<'i>) -> usize
-        requires { at < length self.now.nodes.now }
-        ensures left { from self.now result ≡ drop (inner_len (node_view self.now.held.now node.now)) (from self.now (suc at)) }
+        requires { at < many self.now }
+        ensures left { from self.now result ≡ drop (inner_len (seen self.now node.now)) (from self.now (suc at)) }
         ensures further { at < result }
-        ensures within { result ≤ length self.now.nodes.now }
+        ensures within { result ≤ many self.now }
     {
         let inner = node.inner();
-        let len = self.nodes.len();
+        let len = self.document.nodes.len();
         if inner < len - at - 1 {
             at + 1 + inner
         } else {
@@ -298,8 +313,8 @@ impl<'d, 'i> Value<'d, 'i> {
 
     /// The item of a list at this index.
     fn item_of_list(&self, index: usize) -> Option<Value<'d, 'i>>
-        requires { self.now.index < length self.now.nodes.now }
-        ensures { option_map value_view result ≡ item_at index (items 0 (from self.now (suc self.now.index))) }
+        requires { self.now.index < many self.now }
+        ensures { option_map nodes_from result ≡ slice_get (items 0 (from self.now (suc self.now.index))) index }
     {
         let mut at = self.index + 1;
         let mut left = index;
@@ -323,25 +338,25 @@ impl<'d, 'i> Value<'d, 'i> {
 
     /// The item at this index, where no end stands there.
     fn item_there(&self, at: usize) -> Option<Value<'d, 'i>>
-        ensures { option_map value_view result ≡ item_at 0 (items 0 (from self.now at)) }
+        ensures { option_map nodes_from result ≡ slice_get (items 0 (from self.now at)) 0 }
     {
         let node = self.node(at)?;
         if node.is_end() {
             return None;
         }
-        Some(Value::at(self.nodes, self.held, at))
+        Some(Value::at(self.document, at))
     }
 
     /// The value of the last member with this name.
     fn last_named(&self, key: &str) -> Option<Value<'d, 'i>>
-        requires { self.now.index < length self.now.nodes.now }
-        ensures { option_map value_view result ≡ last_member key.now (members 0 (from self.now (suc self.now.index))) }
+        requires { self.now.index < many self.now }
+        ensures { option_map nodes_from result ≡ last_named key.now (members 0 (from self.now (suc self.now.index))) }
     {
         let mut at = self.index + 1;
         let mut found = None;
         while let Some((name, next)) = self.member_there(at) {
             if name == key {
-                found = Some(Value::at(self.nodes, self.held, at + 1));
+                found = Some(Value::at(self.document, at + 1));
             }
             at = next;
         }
@@ -353,8 +368,16 @@ impl<'d, 'i> Value<'d, 'i> {
         ensures { IsMemberAt self.now at result }
     {
         let key = self.node(at)?;
-        let name = key.name(self.held)?;
+        let name = key.name(self.document)?;
         let value = self.node(at + 1)?;
         Some((name, self.past(at + 1, value)))
     }
+}
+
+/// The bytes of the input in a span, as far as it lies there.
+fn bytes_of_span(input: &[u8], span: Span) -> &[u8]
+    ensures { result.now ≡ text_at input.now (span_of span) }
+{
+    let from = input.get(span.offset..).unwrap_or(&[]);
+    from.get(..span.len).unwrap_or(from)
 }

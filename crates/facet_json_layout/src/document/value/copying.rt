@@ -1,8 +1,8 @@
 //! The tree of a document's value, in memory of its own.
 
-ghost use Rattle.std.specs.Prelude.{◌≡◌, ◌<◌, suc, true, length, IfOk, MatchResult};
-ghost use Rattle.facet_json_layout.specs.Inner.Looking.{from};
-ghost use Rattle.facet_json_layout.specs.Nodes.{items, leaf_view, members, nothing, value_view};
+ghost use Rattle.std.specs.Prelude.{◌≡◌, ◌<◌, suc, true, IfOk, MatchResult};
+ghost use Rattle.facet_json_layout.specs.Inner.Looking.{many, pairs_at, trees_at};
+ghost use Rattle.facet_json_layout.specs.Nodes.{leaf_view, nothing, value_view};
 ghost use Rattle.facet_json_tree.specs.Content.{may_allocate};
 ghost use Rattle.facet_json_tree.specs.Views.{tree_view, trees_view, pairs_view};
 
@@ -50,7 +50,7 @@ fn copy_value(value: &Value<'_, '_>, alloc: Global) -> Result<Tree, AllocError>
     if node.is_object() {
         return Ok(Tree::Pairs(copy_members(value, alloc)?));
     }
-    match node.leaf(value.held) {
+    match node.leaf(value.document) {
         Some(leaf) => copy_leaf(leaf, alloc),
         None => Ok(no_value(alloc)),
     }
@@ -59,13 +59,13 @@ fn copy_value(value: &Value<'_, '_>, alloc: Global) -> Result<Tree, AllocError>
 /// The trees of a list's items, in their order.
 #[cycle(copy)]
 fn copy_items(value: &Value<'_, '_>, alloc: Global) -> Result<Vec<Tree>, AllocError>
-    requires { value.now.index < length value.now.nodes.now }
-    ensures { IfOk result (λ copies. trees_view copies.items ≡ items 0 (from value.now (suc value.now.index))) }
+    requires { value.now.index < many value.now }
+    ensures { IfOk result (λ copies. trees_view copies.items ≡ trees_at value.now (suc value.now.index)) }
 {
     let mut copies = Vec::with_capacity(alloc, value.items_len())?;
     let mut at = value.index + 1;
     while let Some(next) = value.next_item(at) {
-        copies.push(copy_value(&Value::at(value.nodes, value.held, at), alloc)?)?;
+        copies.push(copy_value(&Value::at(value.document, at), alloc)?)?;
         at = next;
     }
     Ok(copies)
@@ -74,14 +74,14 @@ fn copy_items(value: &Value<'_, '_>, alloc: Global) -> Result<Vec<Tree>, AllocEr
 /// The trees of an object's members, in their order, each with its name.
 #[cycle(copy)]
 fn copy_members(value: &Value<'_, '_>, alloc: Global) -> Result<Vec<(String, Tree)>, AllocError>
-    requires { value.now.index < length value.now.nodes.now }
-    ensures { IfOk result (λ copies. pairs_view copies.items ≡ members 0 (from value.now (suc value.now.index))) }
+    requires { value.now.index < many value.now }
+    ensures { IfOk result (λ copies. pairs_view copies.items ≡ pairs_at value.now (suc value.now.index)) }
 {
     let mut copies = Vec::with_capacity(alloc, value.members_len())?;
     let mut at = value.index + 1;
     while let Some((key, next)) = value.member_there(at) {
         let name = String::from_str(alloc, key)?;
-        let copy = copy_value(&Value::at(value.nodes, value.held, at + 1), alloc)?;
+        let copy = copy_value(&Value::at(value.document, at + 1), alloc)?;
         copies.push((name, copy))?;
         at = next;
     }

@@ -1,9 +1,9 @@
 //! A document's value, written by a serializer's calls.
 
-ghost use Rattle.std.specs.Prelude.{◌≡◌, ◌<◌, suc, None, length, IfErr, OnOk, OnErr};
+ghost use Rattle.std.specs.Prelude.{◌≡◌, ◌<◌, suc, None, IfErr, OnOk, OnErr};
 ghost use Rattle.facet_json_document.specs.Tree.{list, pairs};
-ghost use Rattle.facet_json_layout.specs.Inner.Looking.{from};
-ghost use Rattle.facet_json_layout.specs.Nodes.{items, leaf_view, members, nothing, value_view};
+ghost use Rattle.facet_json_layout.specs.Inner.Looking.{many, pairs_at, trees_at};
+ghost use Rattle.facet_json_layout.specs.Nodes.{leaf_view, nothing, value_view};
 ghost use Rattle.facet_json_serializer.specs.Serializer.{out_of_memory};
 ghost use Rattle.facet_json_serializer.specs.Views.{write_refusal_of};
 ghost use Rattle.facet_json_tree.specs.Write.{HasWritten};
@@ -57,7 +57,7 @@ fn write_value(
     if node.is_object() {
         return write_members(serializer, value);
     }
-    match node.leaf(value.held) {
+    match node.leaf(value.document) {
         Some(leaf) => write_leaf(serializer, leaf),
         None => write_nothing(serializer),
     }
@@ -69,15 +69,15 @@ fn write_items(
     serializer: &mut JsonSerializer<'_>,
     value: &Value<'_, '_>,
 ) -> Result<(), JsonSerializeError>
-    requires { value.now.index < length value.now.nodes.now }
-    ensures written { OnOk result (HasWritten serializer.old (list (items 0 (from value.now (suc value.now.index)))) serializer.new) }
+    requires { value.now.index < many value.now }
+    ensures written { OnOk result (HasWritten serializer.old (list (trees_at value.now (suc value.now.index))) serializer.new) }
     ensures refused { IfErr result (λ e. write_refusal_of e ≡ out_of_memory) }
     ensures spent { OnErr result (serializer.new ≡ None) }
 {
     serializer.begin_seq()?;
     let mut at = value.index + 1;
     while let Some(next) = value.next_item(at) {
-        write_value(serializer, &Value::at(value.nodes, value.held, at))?;
+        write_value(serializer, &Value::at(value.document, at))?;
         at = next;
     }
     serializer.end_seq()
@@ -89,8 +89,8 @@ fn write_members(
     serializer: &mut JsonSerializer<'_>,
     value: &Value<'_, '_>,
 ) -> Result<(), JsonSerializeError>
-    requires { value.now.index < length value.now.nodes.now }
-    ensures written { OnOk result (HasWritten serializer.old (pairs (members 0 (from value.now (suc value.now.index)))) serializer.new) }
+    requires { value.now.index < many value.now }
+    ensures written { OnOk result (HasWritten serializer.old (pairs (pairs_at value.now (suc value.now.index))) serializer.new) }
     ensures refused { IfErr result (λ e. write_refusal_of e ≡ out_of_memory) }
     ensures spent { OnErr result (serializer.new ≡ None) }
 {
@@ -98,7 +98,7 @@ fn write_members(
     let mut at = value.index + 1;
     while let Some((key, next)) = value.member_there(at) {
         serializer.field_key(key)?;
-        write_value(serializer, &Value::at(value.nodes, value.held, at + 1))?;
+        write_value(serializer, &Value::at(value.document, at + 1))?;
         at = next;
     }
     serializer.end_struct()

@@ -1,6 +1,6 @@
 use Rattle.std.proofs.lemmas.Result.{err_from_is_err_and}
 use Rattle.facet_json_token.specs.Gap.{plain}
-use Rattle.facet_json_layout.proofs.NodesRead.{value-read, value-only, unlimited}
+use Rattle.facet_json_layout.proofs.NodesRead.{nodes-only, value-read, value-only, unlimited}
 use Rattle.facet_json_layout.proofs.OneDocuments.{breaks-off, document-lacks}
 use Rattle.facet_json_layout.proofs.document.Document.parse.Goals as goal
 
@@ -20,3 +20,6 @@ returns-clause-document c = value-read c.args.input.now plain _ c.in_ok-nodes.en
 
 pub returns-clause-only : goal.returns-clause-only
 returns-clause-only c root value d = value-only c.args.input.now plain _ root value c.in_ok-nodes.ensures.nodes d
+
+pub returns-clause-nodes : goal.returns-clause-nodes
+returns-clause-nodes c root value d = nodes-only c.args.input.now plain _ c.in_ok-nodes.ensures.nodes root value d

@@ -1,5 +1,5 @@
 use Rattle.std.proofs.lemmas.Result.{err_from_is_err_and}
-use Rattle.facet_json_layout.proofs.NodesRead.{strict-read, strict-only, unlimited}
+use Rattle.facet_json_layout.proofs.NodesRead.{strict_nodes-only, strict-read, strict-only, unlimited}
 use Rattle.facet_json_layout.proofs.OneDocuments.{strict-lacks}
 use Rattle.facet_json_layout.proofs.document.Document.parse_strict.Goals as goal
 
@@ -18,3 +18,6 @@ returns-clause-document c = strict-read c.args.input.now _ c.in_ok-nodes.ensures
 
 pub returns-clause-only : goal.returns-clause-only
 returns-clause-only c root value d = strict-only c.args.input.now _ root value c.in_ok-nodes.ensures.nodes d
+
+pub returns-clause-nodes : goal.returns-clause-nodes
+returns-clause-nodes c root value d = strict_nodes-only c.args.input.now _ c.in_ok-nodes.ensures.nodes root value d

@@ -1,6 +1,6 @@
 use Rattle.std.proofs.lemmas.Result.{err_from_is_err_and}
 use Rattle.facet_json_token.specs.Gap.{plain}
-use Rattle.facet_json_layout.proofs.NodesRead.{value-only}
+use Rattle.facet_json_layout.proofs.NodesRead.{nodes-only, value-only}
 use Rattle.facet_json_layout.proofs.NodesWithin.{none-deeper, only-lacks, deeper-is_refused, read-within, refused-so}
 use Rattle.facet_json_layout.proofs.document.Document.parse_within.Goals as goal
 
@@ -27,3 +27,6 @@ returns-clause-only c root value d shallow = value-only c.args.input.now plain _
 
 pub returns-clause-deeper : goal.returns-clause-deeper
 returns-clause-deeper c root value s d beyond = none-deeper c.args.input.now plain c.args.depth c.in_ok-nodes.ensures.shallow root value s d beyond
+
+pub returns-clause-nodes : goal.returns-clause-nodes
+returns-clause-nodes c root value d = nodes-only c.args.input.now plain _ c.in_ok-nodes.ensures.nodes root value d

@@ -1,6 +1,6 @@
 use Rattle.std.proofs.lemmas.Result.{err_from_is_err_and}
 use Rattle.facet_json_token.specs.Gap.{jsonc}
-use Rattle.facet_json_layout.proofs.NodesRead.{value-only}
+use Rattle.facet_json_layout.proofs.NodesRead.{nodes-only, value-only}
 use Rattle.facet_json_layout.proofs.NodesWithin.{none-deeper, only-lacks, deeper-is_refused, read-within, refused-so}
 use Rattle.facet_json_layout.proofs.document.Document.parse_within_jsonc.Goals as goal
 
@@ -27,3 +27,6 @@ pub returns-in_err-nodes-clause-refused : goal.returns-in_err-nodes-clause-refus
 returns-in_err-nodes-clause-refused c =
     let p = err_from_is_err_and c.from_residual.result c.from_residual.ensures.1 in
     rw (p.1, p.2) (refused-so c.args.input.now jsonc c.args.depth _ c.in_err-nodes.ensures.refused)
+
+pub returns-clause-nodes : goal.returns-clause-nodes
+returns-clause-nodes c root value d = nodes-only c.args.input.now jsonc _ c.in_ok-nodes.ensures.nodes root value d

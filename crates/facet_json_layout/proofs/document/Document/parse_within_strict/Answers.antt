@@ -1,5 +1,5 @@
 use Rattle.std.proofs.lemmas.Result.{err_from_is_err_and}
-use Rattle.facet_json_layout.proofs.NodesRead.{strict-only}
+use Rattle.facet_json_layout.proofs.NodesRead.{strict_nodes-only, strict-only}
 use Rattle.facet_json_layout.proofs.NodesWithin.{strict_none-deeper, strict_only-lacks, strict_deeper-is_refused, strict_read-within}
 use Rattle.facet_json_layout.proofs.document.Document.parse_within_strict.Goals as goal
 
@@ -21,3 +21,6 @@ returns-clause-only c root value d shallow = strict-only c.args.input.now _ root
 
 pub returns-clause-deeper : goal.returns-clause-deeper
 returns-clause-deeper c root value s d beyond = strict_none-deeper c.args.input.now c.args.depth c.in_ok-nodes.ensures.shallow root value s d beyond
+
+pub returns-clause-nodes : goal.returns-clause-nodes
+returns-clause-nodes c root value d = strict_nodes-only c.args.input.now _ c.in_ok-nodes.ensures.nodes root value d

@@ -1,7 +1,8 @@
 -- Events are passed one after another, and their nodes added.
-use Rattle.std.proofs.Common.{Ok, ap, ◌∙◌}
+use Rattle.std.proofs.Common.{true, Ok, ap, ◌∙◌}
 use Rattle.std.proofs.lemmas.Result.{err_from_is_err_and}
-use Rattle.facet_json_layout.proofs.NodesRead.{adds-more, adds-refused, adds-free}
+use Rattle.facet_json_layout.specs.Inner.Building.{built_view}
+use Rattle.facet_json_layout.proofs.NodesRead.{adds-more, adds-input, adds-refused, adds-free}
 use Rattle.facet_json_layout.proofs.document.build.build.Goals as goal
 
 pub returns-in_err-adds_event-clause-refused : goal.returns-in_err-adds_event-clause-refused
@@ -17,6 +18,7 @@ loop-built-preserved c =
     record {
       passed = adds-more _ _ _ _ _ i.passed told;
       buffer = c.adds_event.ensures.same ∙ i.buffer;
+      input = adds-input true c.loop-built.parser c.adds_event.new.parser (built_view c.loop-built.built) (built_view c.adds_event.new.self) told ∙ i.input;
       level = record { same = i.level.same ∙ (c.in_ok-adds_event.ensures.level (ap Ok c.if-branch.true)).same };
       free = λ free. adds-free _ _ _ _ _ c.in_ok-adds_event.ensures.added;
     }

@@ -9,6 +9,7 @@ abbrev pub invariant-loop-built : goal.invariant-loop-built
 invariant-loop-built l = record {
   passed : AddsSome l.fn.parser l.parser (built_view l.built);
   buffer : l.parser.buffer ≡ l.fn.parser.buffer;
+  input : l.built.input.now ≡ l.fn.input;
   level : SameBeyond (future_of l.fn.parser) l.fn.depth (future_of l.parser) l.built.room;
   free : l.fn.parser.cursor.refusal ≡ None → l.parser.cursor.refusal ≡ None;
 }

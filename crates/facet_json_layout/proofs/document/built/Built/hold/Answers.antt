@@ -6,8 +6,10 @@ use Rattle.facet_json_layout.proofs.document.built.Built.hold.Goals as goal
 pub returns-clause-same : goal.returns-clause-same
 returns-clause-same c =
     let old = c.args.self.now in
-    let seen = ap (λ h. nodes_view h old.nodes.items) c.in_ok-push.ensures.items ∙ same-views old.held.items c.args.value old.nodes.items old.sound in
-    ap (λ l. record { nodes = l; unclosed = reverse old.unclosed.items }) seen
+    let input = old.input.now in
+    let seen = ap (λ h. nodes_view input h old.nodes.items) c.in_ok-push.ensures.items
+    ∙ same-views input old.held.items c.args.value old.nodes.items old.sound in
+    ap (λ l. record { input = input; nodes = l; unclosed = reverse old.unclosed.items }) seen
 
 pub returns-clause-held : goal.returns-clause-held
 returns-clause-held c =

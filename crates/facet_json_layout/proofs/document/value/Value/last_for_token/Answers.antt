@@ -10,6 +10,6 @@ loop-name-preserved-then-stands_for c =
     let m = c.in-Some.ensures in
     let named = c.if-stands_for.ensures ∙ ap (λ name. same_bytes name (unescaped c.args.token.now)) c.as_bytes.ensures.value in
     record {
-      rest = member-found c.args.self.now c.at.result c.loop-name.at (c.loop-name.at + 1) c.in-Some.next _ _ _ _ i.rest m named c.at.ensures.seen c.at.ensures.index (omega arith);
+      rest = member-found c.args.self.now c.at.result c.loop-name.at (c.loop-name.at + 1) c.in-Some.next _ _ _ _ i.rest m named c.at.ensures.same c.at.ensures.index (omega arith);
       within = m.within;
     }

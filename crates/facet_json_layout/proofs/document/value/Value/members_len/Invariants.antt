@@ -1,15 +1,15 @@
 -- Those that are counted and those that are left are all.
 use Rattle.std.proofs.Common.{◌≡◌, ◌+◌, ◌≤◌, ◌-◌, suc, length}
-use Rattle.facet_json_layout.specs.Nodes.{members, pairs_len}
-use Rattle.facet_json_layout.specs.Inner.Looking.{from}
+use Rattle.facet_json_layout.specs.Nodes.{members}
+use Rattle.facet_json_layout.specs.Inner.Looking.{from, many}
 use Rattle.facet_json_layout.proofs.document.value.Value.members_len.Given as goal
 
 abbrev pub invariant-loop-next : goal.invariant-loop-next
 invariant-loop-next l = record {
-  all : pairs_len (members 0 (from l.fn.self (suc l.fn.self.index))) ≡ l.len + pairs_len (members 0 (from l.fn.self l.at));
-  within : l.at ≤ length l.fn.self.nodes.now;
+  all : length (members 0 (from l.fn.self (suc l.fn.self.index))) ≡ l.len + length (members 0 (from l.fn.self l.at));
+  within : l.at ≤ many l.fn.self;
   fewer : l.len ≤ l.at;
 }
 
 abbrev pub decreases-loop-next : goal.decreases-loop-next
-decreases-loop-next l = length l.fn.self.nodes.now - l.at
+decreases-loop-next l = many l.fn.self - l.at

@@ -1,14 +1,12 @@
 use Rattle.std.proofs.Common.{◌≤◌, ◌-◌, ℕ, List, length, drop}
 use Rattle.facet_json_tree.specs.Pointer.{IsPointer}
-use Rattle.facet_json_tree.proofs.PointerSteps.{Reached}
-use Rattle.facet_json_layout.specs.Nodes.{value_view}
+use Rattle.facet_json_layout.proofs.PointersSeen.{Along}
 use Rattle.facet_json_layout.proofs.document.value.Value.named.Given as goal
 
 abbrev pub invariant-loop-start : goal.invariant-loop-start
 invariant-loop-start l = record {
   within : l.start ≤ length l.fn.pointer;
-  reached : (names : List (List ℕ)) → IsPointer l.fn.pointer names →
-      Reached (drop l.start l.fn.pointer) (value_view l.found) names (value_view l.fn.self);
+  reached : (names : List (List ℕ)) → IsPointer l.fn.pointer names → Along (drop l.start l.fn.pointer) l.found names l.fn.self;
 }
 
 abbrev pub decreases-loop-start : goal.decreases-loop-start

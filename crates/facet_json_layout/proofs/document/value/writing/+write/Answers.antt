@@ -32,11 +32,11 @@ write_value-returns-in_default-clause-written t c = rw (empty-value c.args.value
 
 pub write_value-returns-then-is_list-clause-written : goal.write_value-returns-then-is_list-clause-written
 write_value-returns-then-is_list-clause-written t c =
-    rw (list-of c.args.value.now _ c.in-Some.ensures (sym (c.if-is_list.ensures _))) c.write_items.ensures.written
+    rw (list-of c.args.value.now _ c.in-Some.ensures (sym (c.if-is_list.ensures _ _))) c.write_items.ensures.written
 
 pub write_value-returns-then-is_object-clause-written : goal.write_value-returns-then-is_object-clause-written
 write_value-returns-then-is_object-clause-written t c =
-    rw (object-of c.args.value.now _ c.in-Some.ensures (sym (c.if-is_object.ensures _))) c.write_members.ensures.written
+    rw (object-of c.args.value.now _ c.in-Some.ensures (sym (c.if-is_object.ensures _ _))) c.write_members.ensures.written
 
 pub write_value-returns-in-Some-leaf-clause-written : goal.write_value-returns-in-Some-leaf-clause-written
 write_value-returns-in-Some-leaf-clause-written t c =
@@ -44,7 +44,7 @@ write_value-returns-in-Some-leaf-clause-written t c =
 
 pub write_value-returns-in-None-clause-written : goal.write_value-returns-in-None-clause-written
 write_value-returns-in-None-clause-written t c =
-    rw (nothing-of c.args.value.now _ c.in-Some.ensures c.in-None.ensures (sym (c.if-is_list.ensures _)) (sym (c.if-is_object.ensures _)))
+    rw (nothing-of c.args.value.now _ c.in-Some.ensures c.in-None.ensures (sym (c.if-is_list.ensures _ _)) (sym (c.if-is_object.ensures _ _)))
     c.write_nothing-in-None.ensures.written
 
 pub write_items-loop-next-init : goal.write_items-loop-next-init
@@ -59,7 +59,7 @@ write_items-loop-next-preserved t c =
     let item = c.in-Some.ensures in
     record {
       left = item-written c.args.value.now c.at.result _ _ _ c.loop-next.at _ c.loop-next.invariant.left item c.in_ok-write_value.ensures.written
-          c.at.ensures.seen c.at.ensures.index;
+          c.at.ensures.same c.at.ensures.index;
       ahead = search rules;
       within = item.within;
     }
@@ -86,7 +86,7 @@ write_members-loop-key-preserved t c =
     let member = c.in-Some.ensures in
     record {
       left = member-written c.args.value.now c.at.result _ _ _ _ c.loop-key.at _ _ _ c.loop-key.invariant.left member c.in_ok-field_key.ensures.appends
-          c.in_ok-write_value.ensures.written c.at.ensures.seen c.at.ensures.index (omega arith);
+          c.in_ok-write_value.ensures.written c.at.ensures.same c.at.ensures.index (omega arith);
       ahead = search rules;
       within = member.within;
     }
