@@ -76,6 +76,9 @@ fn numbers(alloc: Global, input: &[u8]) -> Option<Numbers> {
 #[test]
 fn types_are_read_by_hand(rt: HostRuntime) {
     for (input, expected) in &FIGURES {
-        assert_eq!(rt; numbers(rt.alloc(), input.as_bytes()), *expected, "{input}");
+        assert!(rt;
+            numbers(rt.alloc(), input.as_bytes()) == *expected,
+            "{input}"
+        );
     }
 }
