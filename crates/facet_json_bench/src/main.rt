@@ -15,9 +15,9 @@ mod work;
 use crate::seen::Seen;
 use crate::work::{GENERAL, Order, Work, strict_work_of, work_of};
 use facet_json::scanner::Mode;
-use std::alloc::{AllocError, Global};
+use std::fmt::Display;
 use std::hint::black_box;
-use std::io::{ErrorKind, Read, Write};
+use std::io::{ErrorKind, Read};
 use std::time::CpuClock;
 use std::{env, io};
 
@@ -30,6 +30,14 @@ fn timed(rt: &HostRuntime, order: &Order<'_>) -> io::Result<(u64, Option<Seen>)>
     Ok((spent, seen))
 }
 
+/// Prints what was passed, behind what is told of it.
+fn tell(rt: &HostRuntime, head: impl Display + Drop, seen: Option<Seen>) -> io::Result<()> {
+    match seen {
+        Some(seen) => println!(rt; "{head} {} {}", seen.count, seen.sum),
+        None => println!(rt; "{head} refused"),
+    }
+}
+
 /// Does the work so many times, and prints the shortest time and what it passed.
 fn measure(rt: &HostRuntime, order: &Order<'_>, rounds: u64) -> io::Result<()> {
     let mut least = u64::MAX;
@@ -39,32 +47,20 @@ fn measure(rt: &HostRuntime, order: &Order<'_>, rounds: u64) -> io::Result<()> {
         least = least.min(spent);
         last = seen;
     }
-    match last {
-        Some(seen) => println!(rt; "{least} {} {}", seen.count, seen.sum),
-        None => println!(rt; "{least} refused"),
-    }
-}
-
-/// Does each work once, and writes a line of what it passed.
-fn tell_each(alloc: Global, input: &str, told: &mut String) -> Result<(), AllocError> {
-    for (name, work) in &GENERAL {
-        match Order::new(alloc, *work, Mode::Plain, input).follow(alloc) {
-            Some(seen) => writeln!(told, "{name} {} {}", seen.count, seen.sum)?,
-            None => writeln!(told, "{name} refused")?,
-        }
-    }
-    Ok(())
+    tell(rt, least, last)
 }
 
 /// Does each work once, and prints what it passed.
 fn show(rt: &HostRuntime, input: &str) -> io::Result<()> {
-    let mut told = String::new(rt.alloc());
-    tell_each(rt.alloc(), input, &mut told)?;
-    rt.stdout().write_all(told.as_bytes())
+    for (name, work) in &GENERAL {
+        let seen = Order::new(rt.alloc(), *work, Mode::Plain, input).follow(rt.alloc());
+        tell(rt, *name, seen)?;
+    }
+    Ok(())
 }
 
 /// The work of this name and the mode of its input, by the word that stands behind the rounds.
-fn asked(name: &str, word: Option<&str>) -> Option<(Work, Mode)> {
+fn named(name: &str, word: Option<&str>) -> Option<(Work, Mode)> {
     match word {
         None => Some((work_of(name)?, Mode::Plain)),
         Some("jsonc") => Some((work_of(name)?, Mode::Jsonc)),
@@ -73,35 +69,25 @@ fn asked(name: &str, word: Option<&str>) -> Option<(Work, Mode)> {
     }
 }
 
-/// Measures the work of this name so many times.
-fn measure_named(
-    rt: &HostRuntime,
-    name: &str,
-    rounds: &str,
-    word: Option<&str>,
-    input: &str,
-) -> io::Result<()> {
-    match (asked(name, word), rounds.parse()) {
-        (Some((work, mode)), Ok(rounds)) => {
-            measure(rt, &Order::new(rt.alloc(), work, mode, input), rounds)
-        }
-        _ => Err(io::Error::from(ErrorKind::InvalidInput)),
-    }
+/// The work, the mode of its input, and how often it is done, by the arguments.
+fn asked(words: &[String]) -> Option<(Work, Mode, u64)> {
+    let (name, rounds, word) = match words {
+        [name, rounds] => (name, rounds, None),
+        [name, rounds, word] => (name, rounds, Some(word.as_str())),
+        _ => return None,
+    };
+    let (work, mode) = named(name.as_str(), word)?;
+    Some((work, mode, rounds.as_str().parse().ok()?))
 }
 
 /// Does what the words say with the input.
 fn act(rt: &HostRuntime, words: &[String], input: &str) -> io::Result<()> {
-    match words {
-        [] => show(rt, input),
-        [name, rounds] => measure_named(rt, name.as_str(), rounds.as_str(), None, input),
-        [name, rounds, word] => measure_named(
-            rt,
-            name.as_str(),
-            rounds.as_str(),
-            Some(word.as_str()),
-            input,
-        ),
-        _ => Err(io::Error::from(ErrorKind::InvalidInput)),
+    match asked(words) {
+        Some((work, mode, rounds)) => {
+            measure(rt, &Order::new(rt.alloc(), work, mode, input), rounds)
+        }
+        None if words.is_empty() => show(rt, input),
+        None => Err(io::Error::from(ErrorKind::InvalidInput)),
     }
 }
 

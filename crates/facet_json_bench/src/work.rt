@@ -52,8 +52,11 @@ pub enum Work {
     Log,
 }
 
-/// The works that any document is passed by, and their names.
-pub const GENERAL: [(&str, Work); 10] = [
+/// A name of a work.
+pub type Named = (&'static str, Work);
+
+/// The works that any document is passed by.
+pub static GENERAL: [Named; 10] = [
     ("tokens", Work::Tokens),
     ("scanner", Work::Scanner),
     ("skip", Work::Skip),
@@ -66,105 +69,108 @@ pub const GENERAL: [(&str, Work); 10] = [
     ("document-text", Work::DocumentText),
 ];
 
+/// The works of a document of one type; of a type with serde's derives by the toolchain's `serde_json` where the name ends so.
+static OF_TYPES: [Named; 20] = [
+    ("typed", Work::Typed),
+    ("typed-lent", Work::TypedLent),
+    ("typed-text", Work::TypedText),
+    ("log", Work::Log),
+    ("derive", Work::Derive(Listed::Accounts, Side::Ours)),
+    (
+        "derive-text",
+        Work::DeriveText(Listed::Accounts, Side::Ours),
+    ),
+    ("derive-kit", Work::Derive(Listed::Accounts, Side::Kit)),
+    (
+        "derive-text-kit",
+        Work::DeriveText(Listed::Accounts, Side::Kit),
+    ),
+    ("points", Work::Derive(Listed::Points, Side::Ours)),
+    ("points-text", Work::DeriveText(Listed::Points, Side::Ours)),
+    ("points-kit", Work::Derive(Listed::Points, Side::Kit)),
+    (
+        "points-text-kit",
+        Work::DeriveText(Listed::Points, Side::Kit),
+    ),
+    ("shapes", Work::Derive(Listed::Shapes, Side::Ours)),
+    ("shapes-text", Work::DeriveText(Listed::Shapes, Side::Ours)),
+    ("shapes-kit", Work::Derive(Listed::Shapes, Side::Kit)),
+    (
+        "shapes-text-kit",
+        Work::DeriveText(Listed::Shapes, Side::Kit),
+    ),
+    ("outlines", Work::Derive(Listed::Outlines, Side::Ours)),
+    (
+        "outlines-text",
+        Work::DeriveText(Listed::Outlines, Side::Ours),
+    ),
+    ("outlines-kit", Work::Derive(Listed::Outlines, Side::Kit)),
+    (
+        "outlines-text-kit",
+        Work::DeriveText(Listed::Outlines, Side::Kit),
+    ),
+];
+
+/// The works that are done in strict mode too.
+static STRICT: [Named; 2] = [
+    ("events", Work::StrictEvents),
+    ("trusted", Work::StrictTrusted),
+];
+
 /// The work of this name.
 pub fn work_of(name: &str) -> Option<Work> {
-    match name {
-        "tokens" => Some(Work::Tokens),
-        "scanner" => Some(Work::Scanner),
-        "skip" => Some(Work::Skip),
-        "events" => Some(Work::Events),
-        "trusted" => Some(Work::Trusted),
-        "document" => Some(Work::Document),
-        "check" => Some(Work::Check),
-        "tree" => Some(Work::Tree),
-        "text" => Some(Work::Text),
-        "document-text" => Some(Work::DocumentText),
-        "typed" => Some(Work::Typed),
-        "typed-lent" => Some(Work::TypedLent),
-        "typed-text" => Some(Work::TypedText),
-        "log" => Some(Work::Log),
-        _ => derive_of(name),
-    }
-}
-
-/// The work of this name with a type that has serde's derives; by the toolchain's `serde_json` where it ends so.
-fn derive_of(name: &str) -> Option<Work> {
-    match name.strip_suffix("-kit") {
-        Some(name) => side_of(name, Side::Kit),
-        None => side_of(name, Side::Ours),
-    }
-}
-
-/// The work of this name by one side.
-fn side_of(name: &str, side: Side) -> Option<Work> {
-    match name {
-        "derive" => Some(Work::Derive(Listed::Accounts, side)),
-        "derive-text" => Some(Work::DeriveText(Listed::Accounts, side)),
-        "points" => Some(Work::Derive(Listed::Points, side)),
-        "points-text" => Some(Work::DeriveText(Listed::Points, side)),
-        "shapes" => Some(Work::Derive(Listed::Shapes, side)),
-        "shapes-text" => Some(Work::DeriveText(Listed::Shapes, side)),
-        "outlines" => Some(Work::Derive(Listed::Outlines, side)),
-        "outlines-text" => Some(Work::DeriveText(Listed::Outlines, side)),
-        _ => None,
-    }
+    named(&GENERAL, name).or(named(&OF_TYPES, name))
 }
 
 /// The work of this name in strict mode, where there is one.
 pub fn strict_work_of(name: &str) -> Option<Work> {
-    match name {
-        "events" => Some(Work::StrictEvents),
-        "trusted" => Some(Work::StrictTrusted),
-        _ => None,
+    named(&STRICT, name)
+}
+
+/// The work of this name among those.
+fn named(works: &[Named], name: &str) -> Option<Work> {
+    for (known, work) in works {
+        if *known == name {
+            return Some(*work);
+        }
     }
+    None
+}
+
+/// What is to be written.
+#[derive(Drop)]
+pub enum Value<'i> {
+    /// A tree.
+    Tree(Tree),
+    /// A document of nodes.
+    Document(Document<'i>),
+    /// Accounts.
+    Accounts(Vec<Account>),
+    /// Items of a type with serde's derives, and which crate writes them.
+    List(List, Side),
 }
 
 /// What is to be done, and with what.
 #[derive(Drop)]
 pub struct Order<'i> {
     /// The work.
-    pub work: Work,
+    work: Work,
     /// What may stand between the input's tokens.
-    pub mode: Mode,
+    mode: Mode,
     /// The document.
-    pub input: &'i str,
-    /// Its tree, where that is to be written.
-    pub tree: Option<Tree>,
-    /// Its nodes, where these are to be written.
-    pub document: Option<Document<'i>>,
-    /// Its accounts, where these are to be written.
-    pub accounts: Option<Vec<Account>>,
-    /// Its items of a type with serde's derives, where these are to be written.
-    pub list: Option<List>,
+    input: &'i str,
+    /// The value, where one is to be written.
+    value: Option<Value<'i>>,
 }
 
 impl<'i> Order<'i> {
     /// The order to do this with this input: what is to be written is read here.
     pub fn new(alloc: Global, work: Work, mode: Mode, input: &'i str) -> Order<'i> {
-        let tree = match work {
-            Work::Text => tree_of(alloc, input.as_bytes(), mode),
-            _ => None,
-        };
-        let document = match work {
-            Work::DocumentText => document_of(alloc, input.as_bytes(), mode),
-            _ => None,
-        };
-        let accounts = match work {
-            Work::TypedText => accounts_of(alloc, input.as_bytes(), mode),
-            _ => None,
-        };
-        let list = match work {
-            Work::DeriveText(listed, _) => list_of(alloc, input.as_bytes(), listed),
-            _ => None,
-        };
         Order {
             work,
             mode,
             input,
-            tree,
-            document,
-            accounts,
-            list,
+            value: value_of(alloc, work, mode, input.as_bytes()),
         }
     }
 
@@ -185,23 +191,34 @@ impl<'i> Order<'i> {
             Work::Typed => typed(alloc, input, self.mode),
             Work::TypedLent => typed_lent(alloc, input, self.mode),
             Work::Log => log(alloc, input),
-            Work::Text => match &self.tree {
-                Some(tree) => text(alloc, tree),
-                None => None,
-            },
-            Work::DocumentText => match &self.document {
-                Some(document) => document_text(alloc, document),
-                None => None,
-            },
-            Work::TypedText => match &self.accounts {
-                Some(accounts) => typed_text(alloc, accounts),
-                None => None,
-            },
             Work::Derive(listed, side) => derive(alloc, input, listed, side),
-            Work::DeriveText(_, side) => match &self.list {
-                Some(list) => derive_text(alloc, list, side),
-                None => None,
-            },
+            Work::Text | Work::DocumentText | Work::TypedText | Work::DeriveText(_, _) => {
+                match &self.value {
+                    Some(value) => value_text(alloc, value),
+                    None => None,
+                }
+            }
         }
+    }
+}
+
+/// The value of the document that the work writes, where it writes one.
+fn value_of<'i>(alloc: Global, work: Work, mode: Mode, input: &'i [u8]) -> Option<Value<'i>> {
+    match work {
+        Work::Text => Some(Value::Tree(tree_of(alloc, input, mode)?)),
+        Work::DocumentText => Some(Value::Document(document_of(alloc, input, mode)?)),
+        Work::TypedText => Some(Value::Accounts(accounts_of(alloc, input, mode)?)),
+        Work::DeriveText(listed, side) => Some(Value::List(list_of(alloc, input, listed)?, side)),
+        _ => None,
+    }
+}
+
+/// The value is written.
+fn value_text(alloc: Global, value: &Value<'_>) -> Option<Seen> {
+    match value {
+        Value::Tree(tree) => text(alloc, tree),
+        Value::Document(document) => document_text(alloc, document),
+        Value::Accounts(accounts) => typed_text(alloc, accounts),
+        Value::List(list, side) => derive_text(alloc, list, *side),
     }
 }

@@ -41,7 +41,18 @@ pub(crate) fn told(
 ) -> Result<String, AllocError> {
     match answer {
         Ok(text) => Ok(text),
-        Err(error) => shown(alloc, error, input),
+        Err(error) => format!(in alloc; "{}", error.report(input)),
+    }
+}
+
+/// The text, or what the error says.
+pub(crate) fn said(
+    alloc: Global,
+    answer: Result<String, Error<'static>>,
+) -> Result<String, AllocError> {
+    match answer {
+        Ok(text) => Ok(text),
+        Err(error) => format!(in alloc; "{error}"),
     }
 }
 
@@ -62,11 +73,6 @@ pub(crate) fn written<'t, T: Serialize + Drop>(
         Ok(value) => to_string(alloc, &value),
         Err(error) => Err(error),
     }
-}
-
-/// The error with its place in the input.
-fn shown(alloc: Global, error: Error<'static>, input: &str) -> Result<String, AllocError> {
-    format!(in alloc; "{}", error.report(input))
 }
 
 /// Whether these bytes came.

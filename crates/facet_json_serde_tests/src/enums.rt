@@ -109,12 +109,7 @@ static UNTAGGED: [Case<'static>; 3] = [
 fn enums_are_read_and_written(rt: HostRuntime) -> Result<(), Fail> {
     let alloc = rt.alloc();
     expect::<Vec<Shape>>(&rt, alloc, &SHAPES)?;
-    expect::<Vec<Command>>(&rt, alloc, &COMMANDS)
-}
-
-#[test]
-fn enums_with_data_apart_are_read_and_written(rt: HostRuntime) -> Result<(), Fail> {
-    let alloc = rt.alloc();
+    expect::<Vec<Command>>(&rt, alloc, &COMMANDS)?;
     expect::<Vec<Adjacent>>(&rt, alloc, &ADJACENT)?;
     expect::<Vec<Any>>(&rt, alloc, &UNTAGGED)
 }

@@ -41,39 +41,22 @@ fn sample(alloc: Global, seed: &mut u64) -> Result<String, AllocError> {
     )
 }
 
-/// Whether the value that was read is that one.
-fn is_same(read: Value, value: &Value) -> bool {
-    read == *value
-}
-
-/// Whether this library reads the text as that value.
-fn is_ours(alloc: Global, text: &str, value: &Value) -> Result<bool, Fail> {
-    Ok(is_same(facet_json_serde::from_str(alloc, text)?, value))
-}
-
-/// Whether `serde_json` reads the text as that value.
-fn is_theirs(alloc: Global, text: &str, value: &Value) -> Result<bool, Fail> {
-    Ok(is_same(serde_json::from_str(alloc, text)?, value))
-}
-
-/// Whether `serde_json` reads as that value what this library writes of it.
-fn is_theirs_again(alloc: Global, value: &Value) -> Result<bool, Fail> {
-    let written = facet_json_serde::to_string(alloc, value)?;
-    is_theirs(alloc, written.as_str(), value)
-}
-
-/// Whether this library reads as that value what `serde_json` writes of it.
-fn is_ours_again(alloc: Global, value: &Value) -> Result<bool, Fail> {
-    let written = serde_json::to_string(alloc, value)?;
-    is_ours(alloc, written.as_str(), value)
+/// Whether that value was read.
+fn is_value<E: Drop>(read: Result<Value, E>, value: &Value) -> bool {
+    match read {
+        Ok(read) => read == *value,
+        Err(_) => false,
+    }
 }
 
 /// Whether this library reads the text as that value too, and each reads so what the other one writes of it.
 fn is_shared(alloc: Global, text: &str, value: &Value) -> Result<bool, Fail> {
+    let ours = facet_json_serde::to_string(alloc, value)?;
+    let theirs = serde_json::to_string(alloc, value)?;
     Ok(
-        is_ours(alloc, text, value)?
-            && is_ours_again(alloc, value)?
-            && is_theirs_again(alloc, value)?,
+        is_value(facet_json_serde::from_str(alloc, text), value)
+            & is_value(facet_json_serde::from_str(alloc, theirs.as_str()), value)
+            & is_value(serde_json::from_str(alloc, ours.as_str()), value),
     )
 }
 

@@ -1,11 +1,11 @@
 //! Types that are read by hand.
 
 /// A part of a hundred.
-#[derive(Clone, Copy)]
+#[derive(Drop)]
 pub struct Percent(pub u64);
 
 /// A list of two whole numbers, the lower one first.
-#[derive(Clone, Copy)]
+#[derive(Drop)]
 pub struct Range {
     /// The first of the two.
     pub low: u64,
@@ -14,7 +14,7 @@ pub struct Range {
 }
 
 /// Such a part or such a range, as what comes is no list or is one.
-#[derive(Clone, Copy)]
+#[derive(Drop)]
 pub enum Figure {
     /// A part of a hundred.
     Percent(Percent),

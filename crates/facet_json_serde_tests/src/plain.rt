@@ -92,15 +92,10 @@ static WORDS: [Case<'static>; 2] = [
 ];
 
 #[test]
-fn numbers_are_read_and_written(rt: HostRuntime) -> Result<(), Fail> {
+fn plain_types_are_read_and_written(rt: HostRuntime) -> Result<(), Fail> {
     let alloc = rt.alloc();
     expect::<Metres>(&rt, alloc, &FLOATS)?;
-    expect::<Row>(&rt, alloc, &ROWS)
-}
-
-#[test]
-fn maps_are_read_and_written(rt: HostRuntime) -> Result<(), Fail> {
-    let alloc = rt.alloc();
+    expect::<Row>(&rt, alloc, &ROWS)?;
     expect::<BTreeMap<i64, bool>>(&rt, alloc, &COUNTS)?;
     expect::<Vec<Option<(bool, char)>>>(&rt, alloc, &OPTIONS)?;
     expect::<BTreeMap<String, String>>(&rt, alloc, &WORDS)

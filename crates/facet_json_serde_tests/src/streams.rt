@@ -57,11 +57,12 @@ impl Write for Taken {
     }
 }
 
-/// Whether the stream's own error is told.
-fn has_failed<T: Drop>(answer: Result<T, StreamError<'_>>) -> bool {
+/// The stream's own error, or none where all was done.
+fn error<T: Drop>(answer: Result<T, StreamError<'_>>) -> Option<ErrorKind> {
     match answer {
-        Err(StreamError::Io(error)) => error.kind() == ErrorKind::TimedOut,
-        _ => false,
+        Ok(_) => None,
+        Err(StreamError::Io(error)) => Some(error.kind()),
+        Err(_) => Some(ErrorKind::InvalidData),
     }
 }
 
@@ -75,46 +76,36 @@ fn read(alloc: Global, fails_at: usize) -> Result<Vec<u8>, StreamError<'static>>
     from_reader(alloc, &mut pieces)
 }
 
-/// How a list is written where this write fails, and what was taken.
-fn write(alloc: Global, fails_at: usize) -> (Result<(), StreamError<'static>>, Vec<u8>) {
-    let mut taken = Taken {
-        bytes: Vec::new(alloc),
-        writes: 0,
-        fails_at,
-    };
-    let answer = to_writer(alloc, &mut taken, &(1u8, 20u8, 3u8));
-    let Taken { bytes, .. } = taken;
-    (answer, bytes)
-}
-
 #[test]
 fn a_read_fails_in_turn(rt: HostRuntime) {
     let alloc = rt.alloc();
     for at in 0..4 {
-        assert!(rt; has_failed(read(alloc, at)), "at {at}");
+        assert!(rt;
+            error(read(alloc, at)) == Some(ErrorKind::TimedOut),
+            "at {at}"
+        );
     }
     assert!(rt; are_bytes(read(alloc, 4), &[1, 20, 3]));
 }
 
-/// Whether a write of the list ends as this write fails, and what came before it is taken.
-fn write_fails(alloc: Global, at: usize) -> bool {
-    let (answer, taken) = write(alloc, at);
-    has_failed(answer)
-        && taken.len() == at.saturating_mul(3)
-        && TEXT.as_bytes().starts_with(taken.as_slice())
-}
-
-/// Whether the list is written where this write, which is not made, would fail.
-fn is_written(alloc: Global, at: usize) -> bool {
-    let (answer, taken) = write(alloc, at);
-    answer.is_ok() && taken.as_slice() == TEXT.as_bytes()
-}
+/// Which write fails, the error, and what was taken before it; at last, one that is not made.
+static WRITES: [(usize, Option<ErrorKind>, &str); 4] = [
+    (0, Some(ErrorKind::TimedOut), ""),
+    (1, Some(ErrorKind::TimedOut), "[1,"),
+    (2, Some(ErrorKind::TimedOut), "[1,20,"),
+    (3, None, TEXT),
+];
 
 #[test]
 fn a_write_fails_in_turn(rt: HostRuntime) {
-    let alloc = rt.alloc();
-    for at in 0..3 {
-        assert!(rt; write_fails(alloc, at), "at {at}");
+    for (fails_at, wanted, text) in &WRITES {
+        let mut taken = Taken {
+            bytes: Vec::new(rt.alloc()),
+            writes: 0,
+            fails_at: *fails_at,
+        };
+        let answer = to_writer(rt.alloc(), &mut taken, &(1u8, 20u8, 3u8));
+        let is_taken = taken.bytes.as_slice() == text.as_bytes();
+        assert!(rt; (error(answer) == *wanted) & is_taken, "at {fails_at}");
     }
-    assert!(rt; is_written(alloc, 3));
 }

@@ -1,15 +1,11 @@
 //! Writers by hand: what is not one value is refused, and nothing is given out.
 
-use crate::again::expect_text;
-use facet_json_serde::{
-    Error, SerializeOptions, to_string, to_string_pretty, to_string_with_options,
-};
+use crate::again::{expect_text, said};
+use facet_json_serde::{SerializeOptions, to_string, to_string_pretty, to_string_with_options};
 use serde::{Described, Serialize, Serializer};
-use std::alloc::{AllocError, Global};
 use std::test::Fail;
 
 /// A call of a serializer.
-#[derive(Clone, Copy)]
 enum Call {
     Bool,
     Number(u64),
@@ -36,17 +32,17 @@ impl Described for Calls {}
 impl Serialize for Calls {
     fn serialize<S: Serializer>(&self, out: &mut S) -> Result<(), S::Error> {
         for call in self.0 {
-            make(*call, out)?;
+            make(call, out)?;
         }
         Ok(())
     }
 }
 
 /// Makes the call.
-fn make<S: Serializer>(call: Call, out: &mut S) -> Result<(), S::Error> {
+fn make<S: Serializer>(call: &Call, out: &mut S) -> Result<(), S::Error> {
     match call {
         Call::Bool => out.bool(true),
-        Call::Number(number) => out.u64(number),
+        Call::Number(number) => out.u64(*number),
         Call::NoNumber => out.f64(f64::NAN),
         Call::Unit => out.unit(),
         Call::BeginSeq => out.begin_seq(None),
@@ -61,14 +57,6 @@ fn make<S: Serializer>(call: Call, out: &mut S) -> Result<(), S::Error> {
             Ok(())
         }
         Call::Custom => Err(out.custom("odd")),
-    }
-}
-
-/// What was written, or what the refusal says.
-fn told(alloc: Global, answer: Result<String, Error<'static>>) -> Result<String, AllocError> {
-    match answer {
-        Ok(text) => Ok(text),
-        Err(error) => format!(in alloc; "{error}"),
     }
 }
 
@@ -103,27 +91,18 @@ static CALLS: [(&[Call], &str); 12] = [
 #[test]
 fn only_one_value_is_written(rt: HostRuntime) -> Result<(), Fail> {
     let alloc = rt.alloc();
-    for (calls, said) in &CALLS {
-        expect_text(&rt, told(alloc, to_string(alloc, &Calls(*calls))), *said)?;
+    for (calls, refusal) in &CALLS {
+        expect_text(&rt, said(alloc, to_string(alloc, &Calls(*calls))), *refusal)?;
     }
     Ok(())
 }
 
-/// Whether this was written.
-fn is_text(written: Result<String, Error<'static>>, text: &str) -> bool {
-    match written {
-        Ok(written) => written.as_str() == text,
-        Err(_) => false,
-    }
-}
-
 #[test]
-fn layouts_are_those_of_the_options(rt: HostRuntime) {
-    let alloc = rt.alloc();
-    let value = (1u8, "x");
-    let pretty = to_string_pretty(alloc, &value);
-    assert!(rt; is_text(pretty, "[\n  1,\n  \"x\"\n]"));
+fn layouts_are_those_of_the_options(rt: HostRuntime) -> Result<(), Fail> {
+    let (alloc, value) = (rt.alloc(), (1u8, "x"));
+    let pretty = said(alloc, to_string_pretty(alloc, &value));
+    expect_text(&rt, pretty, "[\n  1,\n  \"x\"\n]")?;
     let options = SerializeOptions::new().indent("\t");
-    let tabbed = to_string_with_options(alloc, &value, &options);
-    assert!(rt; is_text(tabbed, "[\n\t1,\n\t\"x\"\n]"));
+    let tabbed = said(alloc, to_string_with_options(alloc, &value, &options));
+    expect_text(&rt, tabbed, "[\n\t1,\n\t\"x\"\n]")
 }
