@@ -1,12 +1,17 @@
-//! Changes of values: items and members that are stored and removed, and what a pointer or a name lends.
+//! Values that are looked into and changed: each of these is tried on a document, and what it answers and what the document becomes is
+//! compared. The rows of look-ups, pointers, merge patches, sorting and displaying stand in modules of theirs.
 
-use crate::lookups::is_document;
+use crate::displayed::DISPLAYED;
+use crate::error_samples::is_displayed;
+use crate::lookups::{CHANGED, FOUND};
+use crate::merges::{MERGED, REPEATED};
+use crate::sorting::SORTED;
 use facet_json_tree::{NotStored, Tree, tree_from_slice};
-use std::alloc::Global;
+use std::alloc::{AllocError, Global};
+use std::process::Abort;
 
-/// A change. What is stored is `false`.
-#[derive(Clone, Copy)]
-enum Change {
+/// A look at a value, or a change of it. What is stored is `false`.
+pub enum Change {
     /// An item at the end.
     Push,
     /// A member of this name.
@@ -19,13 +24,31 @@ enum Change {
     Point(&'static str),
     /// The member of this name is lent, or a new one, and becomes `null`.
     Lend(&'static str),
+    /// The member of this name.
+    Get(&'static str),
+    /// The item at this index.
+    Item(usize),
+    /// The member of this name becomes `false`.
+    GetMut(&'static str),
+    /// The item at this index becomes `false`.
+    ItemMut(usize),
+    /// The patch of this document is merged.
+    Merge(&'static str),
+    /// Each object's members get the order of their names.
+    Sort,
+    /// The value is shown.
+    Display,
 }
 
 /// What is answered where the value is of the wrong kind.
-const WRONG_KIND: &str = "wrong kind";
+pub const WRONG_KIND: &str = "wrong kind";
 
-/// A document, a change, the document of the value that it answers, or nothing, and what the document becomes.
-type Row = (&'static str, Change, &'static str, &'static str);
+/// What is answered where the text is no pointer.
+const NO_POINTER: &str = "no pointer";
+
+/// A document, a change, the document of the value that it answers, or nothing, and what the document becomes, or nothing where it stays
+/// as it is.
+pub type Row = (&'static str, Change, &'static str, &'static str);
 
 static ROWS: [Row; 42] = [
     ("[]", Change::Push, "", "[false]"),
@@ -127,94 +150,177 @@ static ROWS: [Row; 42] = [
     ),
 ];
 
+/// Whether the two are the same, and equal.
+fn are_same(tree: &Tree, wanted: &Tree) -> bool {
+    tree.is_same(wanted) && *tree == *wanted
+}
+
+/// Whether the tree is the document's; none where memory runs out.
+pub fn is_document(alloc: Global, tree: &Tree, document: &str) -> Option<bool> {
+    match tree_from_slice(alloc, document.as_bytes()) {
+        Ok(wanted) => Some(are_same(tree, &wanted)),
+        Err(_) => None,
+    }
+}
+
 /// Whether a value is the document's, or there is none where nothing is wanted.
-fn is_value(alloc: Global, value: Option<Tree>, wanted: &str) -> bool {
+pub fn is_value(alloc: Global, value: Option<&Tree>, wanted: &str) -> Option<bool> {
+    match value {
+        Some(value) => is_document(alloc, value, wanted),
+        None => Some(wanted.is_empty()),
+    }
+}
+
+/// The same of a value that was taken out.
+fn was_value(alloc: Global, value: Option<Tree>, wanted: &str) -> Option<bool> {
     match value {
         Some(value) => is_document(alloc, &value, wanted),
+        None => Some(wanted.is_empty()),
+    }
+}
+
+/// Whether the value is there that becomes `false`, or there is none where nothing is wanted.
+fn is_written(value: Option<&mut Tree>, wanted: &str) -> bool {
+    match value {
+        Some(value) => {
+            *value = Tree::Bool(false);
+            wanted == "false"
+        }
         None => wanted.is_empty(),
     }
 }
 
-/// Whether `false` was refused as it should be.
-fn is_given_back(error: NotStored, wanted: &str) -> bool {
+/// Whether `false` was refused as it should be; none where memory ran out, and the tree is as it was.
+fn is_given_back(error: &NotStored, tree: &Tree, before: &Tree, wanted: &str) -> Option<bool> {
     match error {
-        NotStored::WrongKind(Tree::Bool(false)) => wanted == WRONG_KIND,
-        _ => false,
+        NotStored::WrongKind(Tree::Bool(false)) => Some(wanted == WRONG_KIND),
+        NotStored::Memory(Tree::Bool(false)) if tree.is_same(before) => None,
+        _ => Some(false),
     }
 }
 
 /// Whether storing a member answers what is wanted.
-fn inserts(alloc: Global, tree: &mut Tree, key: &str, wanted: &str) -> bool {
+fn inserts(alloc: Global, tree: &mut Tree, before: &Tree, key: &str, wanted: &str) -> Option<bool> {
     match tree.insert(alloc, key, Tree::Bool(false)) {
-        Ok(had) => is_value(alloc, had, wanted),
-        Err(error) => is_given_back(error, wanted),
+        Ok(had) => was_value(alloc, had, wanted),
+        Err(error) => is_given_back(&error, tree, before, wanted),
     }
 }
 
 /// Whether storing an item answers what is wanted.
-fn pushes(tree: &mut Tree, wanted: &str) -> bool {
+fn pushes(tree: &mut Tree, before: &Tree, wanted: &str) -> Option<bool> {
     match tree.push(Tree::Bool(false)) {
-        Ok(()) => wanted.is_empty(),
-        Err(error) => is_given_back(error, wanted),
+        Ok(()) => Some(wanted.is_empty()),
+        Err(error) => is_given_back(&error, tree, before, wanted),
     }
 }
 
 /// Whether what the pointer names, if it is one and names something, becomes `false`.
 fn points(tree: &mut Tree, pointer: &str, wanted: &str) -> bool {
     match tree.pointer_mut(pointer) {
-        Ok(Some(found)) => {
-            *found = Tree::Bool(false);
-            wanted == "false"
-        }
-        Ok(None) => wanted.is_empty(),
-        Err(_) => wanted == "no pointer",
+        Ok(found) => is_written(found, wanted),
+        Err(_) => wanted == NO_POINTER,
     }
 }
 
 /// Whether the value that is wanted is lent, which becomes `null`.
-fn lends(alloc: Global, tree: &mut Tree, key: &str, wanted: &str) -> bool {
+fn lends(alloc: Global, tree: &mut Tree, before: &Tree, key: &str, wanted: &str) -> Option<bool> {
     match tree.get_or_insert(alloc, key, Tree::Bool(false)) {
         Ok(lent) => {
             let is_wanted = is_document(alloc, lent, wanted);
             *lent = Tree::Null;
             is_wanted
         }
-        Err(error) => is_given_back(error, wanted),
+        Err(error) => is_given_back(&error, tree, before, wanted),
     }
 }
 
-/// Whether the change answers what is wanted.
-fn answers(alloc: Global, tree: &mut Tree, change: Change, wanted: &str) -> bool {
-    match change {
-        Change::Push => pushes(tree, wanted),
-        Change::Insert(key) => inserts(alloc, tree, key, wanted),
-        Change::Remove(key) => is_value(alloc, tree.remove(key), wanted),
-        Change::RemoveItem(index) => is_value(alloc, tree.remove_item(index), wanted),
-        Change::Point(pointer) => points(tree, pointer, wanted),
-        Change::Lend(key) => lends(alloc, tree, key, wanted),
+/// Whether a change was made; none where memory ran out, and the tree is as it was.
+fn is_made(answer: Result<(), AllocError>, tree: &Tree, before: &Tree) -> Option<bool> {
+    match answer {
+        Ok(()) => Some(true),
+        Err(AllocError) if tree.is_same(before) => None,
+        Err(AllocError) => Some(false),
     }
 }
 
-/// Whether the document answers the change so, and becomes what is wanted.
-fn holds(alloc: Global, row: &Row) -> bool {
-    let &(before, change, answer, after) = row;
-    match tree_from_slice(alloc, before.as_bytes()) {
-        Ok(mut tree) => {
-            answers(alloc, &mut tree, change, answer) && is_document(alloc, &tree, after)
-        }
-        Err(_) => false,
+/// Whether the patch is merged.
+fn merges(alloc: Global, tree: &mut Tree, before: &Tree, patch: &str) -> Option<bool> {
+    match tree_from_slice(alloc, patch.as_bytes()) {
+        Ok(patch) => is_made(tree.merge_patch(alloc, &patch), tree, before),
+        Err(_) => None,
+    }
+}
+
+/// Whether the change of the row answers what is wanted; none where memory runs out.
+fn answers(alloc: Global, tree: &mut Tree, before: &Tree, row: &Row) -> Option<bool> {
+    let wanted = row.2;
+    match &row.1 {
+        Change::Push => pushes(tree, before, wanted),
+        Change::Insert(key) => inserts(alloc, tree, before, *key, wanted),
+        Change::Remove(key) => was_value(alloc, tree.remove(*key), wanted),
+        Change::RemoveItem(index) => was_value(alloc, tree.remove_item(*index), wanted),
+        Change::Point(pointer) => Some(points(tree, *pointer, wanted)),
+        Change::Lend(key) => lends(alloc, tree, before, *key, wanted),
+        Change::Get(name) => is_value(alloc, tree.get(*name), wanted),
+        Change::Item(index) => is_value(alloc, tree.item(*index), wanted),
+        Change::GetMut(name) => Some(is_written(tree.get_mut(*name), wanted)),
+        Change::ItemMut(index) => Some(is_written(tree.item_mut(*index), wanted)),
+        Change::Merge(patch) => merges(alloc, tree, before, *patch),
+        Change::Sort => is_made(tree.sort_keys(alloc), tree, before),
+        Change::Display => is_displayed(alloc, tree, wanted),
+    }
+}
+
+/// The same, and whether the tree, which was as the other one before, becomes what is wanted.
+fn becomes(alloc: Global, tree: &mut Tree, before: &Tree, row: &Row) -> Option<bool> {
+    let after = if row.3.is_empty() { row.0 } else { row.3 };
+    if answers(alloc, tree, before, row)? {
+        is_document(alloc, tree, after)
+    } else {
+        Some(false)
+    }
+}
+
+/// The same of a copy of the tree.
+fn holds_of(alloc: Global, before: &Tree, row: &Row) -> Option<bool> {
+    match before.clone(alloc) {
+        Ok(mut tree) => becomes(alloc, &mut tree, before, row),
+        Err(AllocError) => None,
+    }
+}
+
+/// Whether the document of the row answers its change so, and becomes what is wanted; none where memory runs out.
+pub fn holds(alloc: Global, row: &Row) -> Option<bool> {
+    match tree_from_slice(alloc, row.0.as_bytes()) {
+        Ok(before) => holds_of(alloc, &before, row),
+        Err(_) => None,
+    }
+}
+
+/// Fails where a row does not hold.
+fn expect_held(rt: &impl Abort, alloc: Global, rows: &[Row]) {
+    for row in rows {
+        assert!(rt;
+            holds(alloc, row) == Some(true),
+            "{} {} {}",
+            row.0,
+            row.2,
+            row.3
+        );
     }
 }
 
 #[test]
-fn a_change_is_answered_and_leaves_the_rest(rt: HostRuntime) {
-    for row in &ROWS {
-        assert!(rt; holds(rt.alloc(), row), "{} {}", row.0, row.3);
-    }
-}
-
-#[test]
-fn what_is_not_stored_comes_back(rt: HostRuntime) {
+fn a_look_or_a_change_is_answered_and_leaves_the_rest(rt: HostRuntime) {
+    let alloc = rt.alloc();
+    expect_held(&rt, alloc, &ROWS);
+    expect_held(&rt, alloc, &FOUND);
+    expect_held(&rt, alloc, &CHANGED);
+    expect_held(&rt, alloc, &MERGED);
+    expect_held(&rt, alloc, &REPEATED);
+    expect_held(&rt, alloc, &SORTED);
+    expect_held(&rt, alloc, &DISPLAYED);
     assert!(rt; NotStored::WrongKind(Tree::U64(1)).into_value() == Tree::U64(1));
     assert!(rt; NotStored::Memory(Tree::Null).into_value() == Tree::Null);
 }

@@ -1,13 +1,11 @@
 //! What values are.
 
-use crate::samples::{list, object};
 use facet_format::Decimal;
-use facet_json_tree::{OwnedDecimal, Tree};
-use std::alloc::Global;
+use facet_json_tree::{OwnedDecimal, Tree, tree_from_slice};
+use std::alloc::{AllocError, Global};
 
-/// A value that holds no text and no others.
-#[derive(Clone, Copy)]
-enum Small {
+/// A value, by what it holds.
+pub enum Sample {
     I64(i64),
     I128(i128),
     U64(u64),
@@ -16,19 +14,62 @@ enum Small {
     Bool(bool),
     Char(char),
     Unit,
+    Text(&'static str),
+    Decimal(&'static str),
+    Bytes(&'static [u8]),
+    /// JSON text.
+    Raw(&'static str),
+    /// A list without items.
+    List,
+    /// An object without members.
+    Object,
+    /// The value of this document.
+    Document(&'static str),
 }
 
-/// The value.
-fn tree(value: Small) -> Tree {
-    match value {
-        Small::Null => Tree::Null,
-        Small::Unit => Tree::Unit,
-        Small::Bool(truth) => Tree::Bool(truth),
-        Small::Char(character) => Tree::Char(character),
-        Small::I64(number) => Tree::I64(number),
-        Small::U64(number) => Tree::U64(number),
-        Small::I128(number) => Tree::I128(number),
-        Small::U128(number) => Tree::U128(number),
+/// The value, or none where memory runs out.
+pub fn made(alloc: Global, sample: &Sample) -> Option<Tree> {
+    match sample {
+        Sample::I64(number) => Some(Tree::from(*number)),
+        Sample::I128(number) => Some(Tree::from(*number)),
+        Sample::U64(number) => Some(Tree::from(*number)),
+        Sample::U128(number) => Some(Tree::from(*number)),
+        Sample::Null => Some(Tree::Null),
+        Sample::Bool(truth) => Some(Tree::from(*truth)),
+        Sample::Char(character) => Some(Tree::from(*character)),
+        Sample::Unit => Some(Tree::Unit),
+        Sample::List => Some(Tree::from(Vec::<Tree>::new(alloc))),
+        Sample::Object => Some(Tree::from(Vec::<(String, Tree)>::new(alloc))),
+        Sample::Document(document) => tree_from_slice(alloc, document.as_bytes()).ok(),
+        Sample::Bytes(bytes) => bytes_tree(Vec::from_slice(alloc, *bytes)),
+        Sample::Decimal(text) => decimal_tree(alloc, *text),
+        Sample::Text(text) => text_tree(String::from_str(alloc, *text), false),
+        Sample::Raw(text) => text_tree(String::from_str(alloc, *text), true),
+    }
+}
+
+/// Bytes, where they were made.
+fn bytes_tree(made: Result<Vec<u8>, AllocError>) -> Option<Tree> {
+    match made {
+        Ok(bytes) => Some(Tree::Bytes(bytes)),
+        Err(AllocError) => None,
+    }
+}
+
+/// A text or a raw text, where it was made.
+fn text_tree(made: Result<String, AllocError>, is_raw: bool) -> Option<Tree> {
+    match made {
+        Ok(text) if is_raw => Some(Tree::Raw(text)),
+        Ok(text) => Some(Tree::from(text)),
+        Err(AllocError) => None,
+    }
+}
+
+/// The decimal of this text.
+fn decimal_tree(alloc: Global, text: &str) -> Option<Tree> {
+    match OwnedDecimal::new(alloc, &Decimal::new(text)?) {
+        Ok(decimal) => Some(Tree::from(decimal)),
+        Err(AllocError) => None,
     }
 }
 
@@ -39,168 +80,258 @@ const FIVE: Whole = (Some(5), Some(5), Some(5), Some(5));
 
 const NONE: Whole = (None, None, None, None);
 
-/// Values, and the whole numbers that they are.
-static WHOLE: [(Small, Whole); 13] = [
-    (Small::I64(5), FIVE),
-    (Small::U64(5), FIVE),
-    (Small::I128(5), FIVE),
-    (Small::U128(5), FIVE),
-    (Small::I64(-5), (None, Some(-5), None, Some(-5))),
-    (Small::I128(-5), (None, Some(-5), None, Some(-5))),
-    (Small::Null, NONE),
-    (Small::Char('5'), NONE),
+/// What a value is: null, a truth value, a whole number; and what it lends, of a list and an object the length.
+struct Told {
+    null: bool,
+    truth: Option<bool>,
+    whole: Whole,
+    decimal: Option<&'static str>,
+    text: Option<&'static str>,
+    raw: Option<&'static str>,
+    items: Option<usize>,
+    members: Option<usize>,
+}
+
+/// None of these.
+const NOTHING: Told = Told {
+    null: false,
+    truth: None,
+    whole: NONE,
+    decimal: None,
+    text: None,
+    raw: None,
+    items: None,
+    members: None,
+};
+
+/// The number 5.
+const TOLD_FIVE: Told = Told {
+    whole: FIVE,
+    ..NOTHING
+};
+
+/// The number -5.
+const TOLD_MINUS_FIVE: Told = Told {
+    whole: (None, Some(-5), None, Some(-5)),
+    ..NOTHING
+};
+
+/// Null.
+const TOLD_NULL: Told = Told {
+    null: true,
+    ..NOTHING
+};
+
+/// Values, and what they are.
+static VALUES: [(Sample, Told); 26] = [
+    (Sample::I64(5), TOLD_FIVE),
+    (Sample::U64(5), TOLD_FIVE),
+    (Sample::I128(5), TOLD_FIVE),
+    (Sample::U128(5), TOLD_FIVE),
+    (Sample::I64(-5), TOLD_MINUS_FIVE),
+    (Sample::I128(-5), TOLD_MINUS_FIVE),
+    (Sample::Null, TOLD_NULL),
+    (Sample::Unit, TOLD_NULL),
+    (Sample::Char('5'), NOTHING),
+    (Sample::Char('a'), NOTHING),
     (
-        Small::U64(9223372036854775808),
-        (
-            Some(9223372036854775808),
-            None,
-            Some(9223372036854775808),
-            Some(9223372036854775808),
-        ),
+        Sample::U64(9223372036854775808),
+        Told {
+            whole: (
+                Some(9223372036854775808),
+                None,
+                Some(9223372036854775808),
+                Some(9223372036854775808),
+            ),
+            ..NOTHING
+        },
     ),
     (
-        Small::U128(18446744073709551616),
-        (
-            None,
-            None,
-            Some(18446744073709551616),
-            Some(18446744073709551616),
-        ),
+        Sample::U128(18446744073709551616),
+        Told {
+            whole: (
+                None,
+                None,
+                Some(18446744073709551616),
+                Some(18446744073709551616),
+            ),
+            ..NOTHING
+        },
     ),
     (
-        Small::U128(340282366920938463463374607431768211455),
-        (
-            None,
-            None,
-            Some(340282366920938463463374607431768211455),
-            None,
-        ),
+        Sample::U128(340282366920938463463374607431768211455),
+        Told {
+            whole: (
+                None,
+                None,
+                Some(340282366920938463463374607431768211455),
+                None,
+            ),
+            ..NOTHING
+        },
     ),
     (
-        Small::I128(-9223372036854775808),
-        (
-            None,
-            Some(-9223372036854775808),
-            None,
-            Some(-9223372036854775808),
-        ),
+        Sample::I128(-9223372036854775808),
+        Told {
+            whole: (
+                None,
+                Some(-9223372036854775808),
+                None,
+                Some(-9223372036854775808),
+            ),
+            ..NOTHING
+        },
     ),
     (
-        Small::I128(-9223372036854775809),
-        (None, None, None, Some(-9223372036854775809)),
+        Sample::I128(-9223372036854775809),
+        Told {
+            whole: (None, None, None, Some(-9223372036854775809)),
+            ..NOTHING
+        },
+    ),
+    (
+        Sample::Bool(true),
+        Told {
+            truth: Some(true),
+            ..NOTHING
+        },
+    ),
+    (
+        Sample::Bool(false),
+        Told {
+            truth: Some(false),
+            ..NOTHING
+        },
+    ),
+    (
+        Sample::U64(0),
+        Told {
+            whole: (Some(0), Some(0), Some(0), Some(0)),
+            ..NOTHING
+        },
+    ),
+    (
+        Sample::Text("a text"),
+        Told {
+            text: Some("a text"),
+            ..NOTHING
+        },
+    ),
+    (
+        Sample::Text(""),
+        Told {
+            text: Some(""),
+            ..NOTHING
+        },
+    ),
+    (
+        Sample::Decimal("-0.50"),
+        Told {
+            decimal: Some("-0.50"),
+            ..NOTHING
+        },
+    ),
+    (
+        Sample::Raw("[1]"),
+        Told {
+            raw: Some("[1]"),
+            ..NOTHING
+        },
+    ),
+    (
+        Sample::Document("[true,null,[]]"),
+        Told {
+            items: Some(3),
+            ..NOTHING
+        },
+    ),
+    (
+        Sample::Document(r#"{"a":1,"b":[true,null,[]],"a":3}"#),
+        Told {
+            members: Some(3),
+            ..NOTHING
+        },
+    ),
+    (
+        Sample::List,
+        Told {
+            items: Some(0),
+            ..NOTHING
+        },
+    ),
+    (
+        Sample::Object,
+        Told {
+            members: Some(0),
+            ..NOTHING
+        },
     ),
 ];
 
-/// Whether the value is this whole number in each type that has it, and none in the others.
-fn is_whole(value: Tree, wanted: Whole) -> bool {
-    value.as_u64() == wanted.0
-        && value.as_i64() == wanted.1
-        && value.as_u128() == wanted.2
-        && value.as_i128() == wanted.3
+/// The whole number that the value is, in each type that has it.
+fn whole_of(value: &Tree) -> Whole {
+    (
+        value.as_u64(),
+        value.as_i64(),
+        value.as_u128(),
+        value.as_i128(),
+    )
 }
 
-/// Values, whether they are null, and which truth values they are.
-static SMALL: [(Small, bool, Option<bool>); 5] = [
-    (Small::Null, true, None),
-    (Small::Unit, true, None),
-    (Small::Bool(true), false, Some(true)),
-    (Small::Bool(false), false, Some(false)),
-    (Small::U64(0), false, None),
-];
-
-/// Whether the value is null, or this truth value, or neither.
-fn is_small(value: Tree, null: bool, truth: Option<bool>) -> bool {
-    value.is_null() == null && value.as_bool() == truth
+/// Whether the value is null, a truth value or a whole number as is told.
+fn is_scalar(value: &Tree, told: &Told) -> bool {
+    let is_truth = value.as_bool() == told.truth;
+    let is_whole = whole_of(value) == told.whole;
+    value.is_null() == told.null && is_truth && is_whole
 }
 
-#[test]
-fn numbers_and_truth_values_are_told(rt: HostRuntime) {
-    for &(value, wanted) in &WHOLE {
-        assert!(rt; is_whole(tree(value), wanted));
-    }
-    for &(value, null, truth) in &SMALL {
-        assert!(rt; is_small(tree(value), null, truth));
-    }
-}
-
-/// Whether a list without items is not null.
-fn is_not_null(list: Tree) -> bool {
-    !list.is_null()
-}
-
-/// Whether the number of this text is told by it.
-fn tells_decimal(alloc: Global, text: &str) -> Option<bool> {
-    let decimal = OwnedDecimal::new(alloc, &Decimal::new(text)?).ok()?;
-    Some(is_decimal(&Tree::from(decimal), text))
-}
-
-/// Whether the value is the number of this text, and no whole number.
-fn is_decimal(value: &Tree, text: &str) -> bool {
+/// Whether the value is the decimal of this text, or none.
+fn is_decimal(value: &Tree, text: Option<&str>) -> bool {
     match value.as_decimal() {
-        Some(told) => told.as_str() == text && value.as_u64().is_none(),
+        Some(decimal) => text == Some(decimal.as_str()),
+        None => text.is_none(),
+    }
+}
+
+/// Whether the value is this JSON text, or none.
+fn is_raw(value: &Tree, text: Option<&str>) -> bool {
+    match value.as_raw() {
+        Some(raw) => text == Some(raw.as_str()),
+        None => text.is_none(),
+    }
+}
+
+/// How many items the value lends, of a list.
+fn item_count(value: &Tree) -> Option<usize> {
+    Some(value.as_list()?.len())
+}
+
+/// How many members the value lends, of an object.
+fn member_count(value: &Tree) -> Option<usize> {
+    Some(value.as_pairs()?.len())
+}
+
+/// Whether the value is what is told, and nothing else.
+fn is_told(value: &Tree, told: &Told) -> bool {
+    is_scalar(value, told)
+        && is_decimal(value, told.decimal)
+        && is_raw(value, told.raw)
+        && value.as_str() == told.text
+        && item_count(value) == told.items
+        && member_count(value) == told.members
+}
+
+/// Whether the sample is what is told.
+fn holds(alloc: Global, row: &(Sample, Told)) -> bool {
+    match made(alloc, &row.0) {
+        Some(value) => is_told(&value, &row.1),
         None => false,
     }
-}
-
-/// Whether a text is told.
-fn tells_text(alloc: Global, text: &str) -> bool {
-    match String::from_str(alloc, text) {
-        Ok(copy) => is_text(&Tree::from(copy), text),
-        Err(_) => false,
-    }
-}
-
-/// Whether the value is this text, and nothing else.
-fn is_text(value: &Tree, text: &str) -> bool {
-    match value.as_str() {
-        Some(told) => told == text && value.as_bool().is_none() && value.as_list().is_none(),
-        None => false,
-    }
-}
-
-/// Whether the value of a JSON text tells it, and nothing else.
-fn tells_raw(alloc: Global, text: &str) -> Option<bool> {
-    let value = Tree::Raw(String::from_str(alloc, text).ok()?);
-    Some(value.as_raw()?.as_str() == text && value.as_str().is_none())
-}
-
-/// How many items the list of the samples lends.
-fn item_count(alloc: Global) -> Option<usize> {
-    match &list(alloc) {
-        Ok(tree) => Some(tree.as_list()?.len()),
-        Err(_) => None,
-    }
-}
-
-/// How many members the object of the samples lends.
-fn member_count(alloc: Global) -> Option<usize> {
-    match &object(alloc) {
-        Ok(tree) => Some(tree.as_pairs()?.len()),
-        Err(_) => None,
-    }
-}
-
-/// Whether the value lends nothing.
-fn lends_nothing(value: &Tree) -> bool {
-    value.as_decimal().is_none()
-        && value.as_str().is_none()
-        && value.as_raw().is_none()
-        && value.as_list().is_none()
-        && value.as_pairs().is_none()
-}
-
-/// Whether each text is told.
-fn tell_texts(alloc: Global) -> bool {
-    tells_text(alloc, "a text")
-        && tells_text(alloc, "")
-        && tells_decimal(alloc, "-0.50") == Some(true)
-        && tells_raw(alloc, "[1]") == Some(true)
 }
 
 #[test]
-fn what_values_hold_is_told(rt: HostRuntime) {
-    let alloc = rt.alloc();
-    assert!(rt; tell_texts(alloc) && is_not_null(Tree::List(Vec::new(alloc))));
-    assert!(rt; item_count(alloc) == Some(3) && member_count(alloc) == Some(3));
-    assert!(rt; lends_nothing(&Tree::Null) && lends_nothing(&Tree::Char('a')));
+fn what_values_are_is_told(rt: HostRuntime) {
+    for (number, row) in VALUES.iter().enumerate() {
+        assert!(rt; holds(rt.alloc(), row), "row {number}");
+    }
 }

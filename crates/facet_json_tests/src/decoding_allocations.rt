@@ -14,7 +14,6 @@ use facet_json_scan::{
 };
 use std::alloc::Global;
 use std::borrow::CowStr;
-use std::process::Abort;
 
 /// A string's content, its text or refusal, and whether strict mode has it.
 struct Row(&'static str, Result<&'static str, ScanError>, bool);
@@ -53,27 +52,27 @@ fn is_answer(answer: Result<&str, &DecodeError>, row: &Row) -> Option<bool> {
 }
 
 /// The same of a text of its own.
-fn is_string(answer: Result<String, DecodeError>, row: &Row) -> Option<bool> {
+fn is_string(answer: &Result<String, DecodeError>, row: &Row) -> Option<bool> {
     match answer {
         Ok(text) => is_answer(Ok(text.as_str()), row),
-        Err(error) => is_answer(Err(&error), row),
+        Err(error) => is_answer(Err(error), row),
     }
 }
 
 /// The same of a text that has to be its own.
-fn is_owned(answer: Result<CowStr<'_>, DecodeError>, row: &Row) -> Option<bool> {
+fn is_owned(answer: &Result<CowStr<'_>, DecodeError>, row: &Row) -> Option<bool> {
     match answer {
         Ok(CowStr::Owned(text)) => is_answer(Ok(text.as_str()), row),
         Ok(CowStr::Borrowed(_)) => Some(false),
-        Err(error) => is_answer(Err(&error), row),
+        Err(error) => is_answer(Err(error), row),
     }
 }
 
 /// Whether each decoder that allocates gives the row's answer.
 fn decodes(alloc: Global, row: &Row) -> Option<bool> {
     let buf = row.0.as_bytes();
-    let string = is_string(decode_string_owned(alloc, buf, 0, buf.len()), row)?;
-    let owned = is_owned(decode_string(alloc, buf, 0, buf.len(), true), row)?;
+    let string = is_string(&decode_string_owned(alloc, buf, 0, buf.len()), row)?;
+    let owned = is_owned(&decode_string(alloc, buf, 0, buf.len(), true), row)?;
     Some(string && owned)
 }
 
@@ -83,29 +82,24 @@ fn decodes_text(alloc: Global, row: &Row) -> Option<bool> {
     let end = buf.len();
     match str::from_utf8(&buf[0..end]) {
         Ok(_) => {
-            let string = is_string(decode_string_owned_unchecked(alloc, buf, 0, end), row)?;
-            let owned = is_owned(decode_string_unchecked(alloc, buf, 0, end, true), row)?;
+            let string = is_string(&decode_string_owned_unchecked(alloc, buf, 0, end), row)?;
+            let owned = is_owned(&decode_string_unchecked(alloc, buf, 0, end, true), row)?;
             Some(string && owned)
         }
         Err(_) => Some(false),
     }
 }
 
-/// Whether the content is refused whole, as a backslash stands in it.
-fn is_refused(error: DecodeError, content: &str) -> bool {
+/// Whether the content is lent as it stands, and refused whole where a backslash stands in it.
+fn is_lent(answer: &Result<CowStr<'_>, DecodeError>, content: &str) -> bool {
     let whole = ScanError {
         kind: ScanErrorKind::InvalidUtf8,
         span: Span::new(0, content.len()),
     };
-    content.contains('\\') && error == DecodeError::Scan(whole)
-}
-
-/// Whether the content is lent as it stands, and refused whole where a backslash stands in it.
-fn is_lent(answer: Result<CowStr<'_>, DecodeError>, content: &str) -> bool {
     match answer {
-        Ok(CowStr::Borrowed(text)) => text == content && !content.contains('\\'),
+        Ok(CowStr::Borrowed(text)) => *text == content && !content.contains('\\'),
         Ok(CowStr::Owned(_)) => false,
-        Err(error) => is_refused(error, content),
+        Err(error) => content.contains('\\') && *error == DecodeError::Scan(whole),
     }
 }
 
@@ -118,41 +112,32 @@ fn lent_of(content: &str) -> Option<&str> {
     }
 }
 
-/// Whether the decoders that lend the content do, but where a backslash stands in it.
+/// Whether the decoders that lend the content do, but where a backslash stands in it, also those that are told that the bytes are a text.
 fn lends(alloc: Global, content: &str) -> bool {
-    let buf = content.as_bytes();
-    let end = buf.len();
-    decode_string_borrowed(buf, 0, end) == lent_of(content)
-        && is_lent(decode_string(alloc, buf, 0, end, false), content)
-}
-
-/// The same of those that are told that the bytes are a text.
-fn lends_text(alloc: Global, content: &str) -> bool {
     let buf = content.as_bytes();
     let end = buf.len();
     match str::from_utf8(&buf[0..end]) {
         Ok(_) => {
-            decode_string_borrowed_unchecked(buf, 0, end) == lent_of(content)
-                && is_lent(decode_string_unchecked(alloc, buf, 0, end, false), content)
+            let wanted = lent_of(content);
+            let plain = decode_string_borrowed(buf, 0, end) == wanted;
+            let text = decode_string_borrowed_unchecked(buf, 0, end) == wanted;
+            let lent = is_lent(&decode_string(alloc, buf, 0, end, false), content);
+            let answer = decode_string_unchecked(alloc, buf, 0, end, false);
+            plain && text && lent && is_lent(&answer, content)
         }
         Err(_) => false,
-    }
-}
-
-/// Whether this is the row's refusal, or it has none and neither is this.
-fn is_found(refusal: Option<ScanError>, row: &Row) -> bool {
-    match (refusal, &row.1) {
-        (None, Ok(_)) => true,
-        (Some(error), Err(wanted)) => error == *wanted,
-        _ => false,
     }
 }
 
 /// Whether the content is checked as the row says.
 fn is_checked(row: &Row) -> bool {
     let buf = row.0.as_bytes();
-    is_found(check_content(buf, 0, buf.len()).err(), row)
-        && check_string_strict(buf, 0, buf.len()).is_ok() == row.2
+    let is_right = match (check_content(buf, 0, buf.len()), &row.1) {
+        (Ok(_), Ok(_)) => true,
+        (Err(error), Err(wanted)) => error == *wanted,
+        _ => false,
+    };
+    is_right && check_string_strict(buf, 0, buf.len()).is_ok() == row.2
 }
 
 /// Whether the row is decoded, but for one time at most in which memory ran out, and lent and checked.
@@ -160,16 +145,7 @@ fn holds(alloc: Global, row: &Row) -> bool {
     but_once(decodes(alloc, row), decodes(alloc, row))
         && but_once(decodes_text(alloc, row), decodes_text(alloc, row))
         && lends(alloc, row.0)
-        && lends_text(alloc, row.0)
         && is_checked(row)
-}
-
-#[test]
-fn a_growth_is_refused_in_a_decoder(rt: HostRuntime) {
-    for row in &ROWS {
-        assert!(rt; holds(rt.alloc(), row), "{}", row.0);
-    }
-    expect_numbers(&rt);
 }
 
 /// What a text is read as.
@@ -217,52 +193,42 @@ fn parsed(number: Number) -> Option<ParsedNumber<'static>> {
     }
 }
 
-/// Whether the text of the row is read as its number, and is one of RFC 8259 alone; or is refused whole where there is none.
+/// Whether a row's text was read as its number; or was refused whole where there is none.
+fn is_read(answer: &Result<ParsedNumber<'_>, ScanError>, row: &NumberRow) -> bool {
+    let refused = ScanError {
+        kind: ScanErrorKind::UnexpectedChar('?'),
+        span: Span::new(0, row.0.len()),
+    };
+    match (answer, parsed(row.2)) {
+        (Ok(read), Some(wanted)) => *read == wanted,
+        (Err(error), None) => *error == refused,
+        _ => false,
+    }
+}
+
+/// Whether the text of the row is read as its number, also by a reader that is told that the bytes are a text, and is one of RFC 8259
+/// alone; or is refused where there is none.
 fn is_number(row: &NumberRow) -> bool {
     let buf = row.0.as_bytes();
     let end = buf.len();
     let is_nothing = matches!(row.2, Number::Nothing);
-    is_read(parse_number(buf, 0, end, row.1), row.2, end)
-        && check_number_strict(buf, 0, end).is_ok() != is_nothing
-}
-
-/// The same of a reader that is told that the bytes are a text.
-fn is_number_text(row: &NumberRow) -> bool {
-    let buf = row.0.as_bytes();
-    let end = buf.len();
     match str::from_utf8(&buf[0..end]) {
-        Ok(_) => is_read(parse_number_unchecked(buf, 0, end, row.1), row.2, end),
+        Ok(_) => {
+            let plain = is_read(&parse_number(buf, 0, end, row.1), row);
+            let text = is_read(&parse_number_unchecked(buf, 0, end, row.1), row);
+            let strict = check_number_strict(buf, 0, end).is_ok() != is_nothing;
+            plain && text && strict
+        }
         Err(_) => false,
     }
 }
 
-/// Fails where a number is not read as its row says.
-fn expect_numbers(rt: &impl Abort) {
+#[test]
+fn a_growth_is_refused_in_a_decoder(rt: HostRuntime) {
+    for row in &ROWS {
+        assert!(rt; holds(rt.alloc(), row), "{}", row.0);
+    }
     for row in &NUMBERS {
-        assert!(rt; is_number(row) && is_number_text(row), "{}", row.0);
-    }
-}
-
-/// Whether this is the number that is wanted.
-fn is_wanted(read: ParsedNumber<'_>, wanted: Option<ParsedNumber<'_>>) -> bool {
-    match wanted {
-        Some(wanted) => read == wanted,
-        None => false,
-    }
-}
-
-/// Whether a text of this length was read as this number; or was refused whole where there is none.
-fn is_read(answer: Result<ParsedNumber<'_>, ScanError>, number: Number, len: usize) -> bool {
-    match answer {
-        Ok(read) => is_wanted(read, parsed(number)),
-        Err(error) => matches!(number, Number::Nothing) && error == refused(len),
-    }
-}
-
-/// The refusal of a text of this length.
-fn refused(len: usize) -> ScanError {
-    ScanError {
-        kind: ScanErrorKind::UnexpectedChar('?'),
-        span: Span::new(0, len),
+        assert!(rt; is_number(row), "{}", row.0);
     }
 }

@@ -108,7 +108,7 @@ static ROWS: [(Sample, &str); 31] = [
 ];
 
 /// Whether the kind of the sample has this label, or memory runs out.
-fn has_label(alloc: Global, sample: Sample, label: &str) -> Option<bool> {
+fn has_label(alloc: Global, sample: &Sample, label: &str) -> Option<bool> {
     match made(alloc, sample) {
         Ok(kind) => is_labelled(alloc, &kind, label),
         Err(AllocError) => None,
@@ -116,49 +116,48 @@ fn has_label(alloc: Global, sample: Sample, label: &str) -> Option<bool> {
 }
 
 /// An error with a source.
-fn twice_in(alloc: Global, source: &str) -> Result<JsonError, AllocError> {
-    let key = String::from_str(alloc, "a")?;
-    let mut error = JsonError::new(JsonErrorKind::DuplicateKey { key }, Span::new(1, 2));
-    error.source_code = Some(String::from_str(alloc, source)?);
-    Ok(error)
+fn twice_in(alloc: Global, source: &str) -> Option<JsonError> {
+    match made(alloc, &Sample::Key("a")) {
+        Ok(kind) => JsonError::new(kind, Span::new(1, 2))
+            .with_source(alloc, source)
+            .ok(),
+        Err(AllocError) => None,
+    }
 }
 
 /// Whether it is that error, with this source.
-fn is_twice_in(error: JsonError, source: &str) -> bool {
-    let kind = match &error.kind {
-        JsonErrorKind::DuplicateKey { key } => key.as_str() == "a",
-        _ => false,
-    };
-    let kept = match &error.source_code {
-        Some(kept) => kept.as_str() == source,
-        None => false,
-    };
-    kind && kept && error.span == Some(Span::new(1, 2))
+fn is_twice_in(error: &JsonError, source: &str) -> bool {
+    let is_key = matches!(&error.kind, JsonErrorKind::DuplicateKey { key } if key.as_str() == "a");
+    let is_kept = matches!(&error.source_code, Some(kept) if kept.as_str() == source);
+    is_key && is_kept && error.span == Some(Span::new(1, 2))
 }
 
 /// Whether an error gets another source; or memory runs out, and it comes back as it was.
 fn gets_source(alloc: Global) -> Option<bool> {
-    let Ok(error) = twice_in(alloc, "{}") else {
-        return None;
-    };
-    match error.with_source(alloc, "[1]") {
+    match twice_in(alloc, "{}") {
+        Some(error) => is_given(&error.with_source(alloc, "[1]")),
+        None => None,
+    }
+}
+
+/// The same of the answer.
+fn is_given(answer: &Result<JsonError, JsonError>) -> Option<bool> {
+    match answer {
         Ok(error) => Some(is_twice_in(error, "[1]")),
-        Err(error) => {
-            if is_twice_in(error, "{}") {
-                None
-            } else {
-                Some(false)
-            }
-        }
+        Err(error) if is_twice_in(error, "{}") => None,
+        Err(_) => Some(false),
     }
 }
 
 #[test]
 fn a_growth_is_refused_in_a_label_and_a_source(rt: HostRuntime) {
     let alloc = rt.alloc();
-    for &(sample, label) in &ROWS {
-        let first = has_label(alloc, sample, label);
-        assert!(rt; but_once(first, has_label(alloc, sample, label)), "{label}");
+    for (sample, label) in &ROWS {
+        let first = has_label(alloc, sample, *label);
+        assert!(rt;
+            but_once(first, has_label(alloc, sample, *label)),
+            "{label}"
+        );
     }
     assert!(rt; but_once(gets_source(alloc), gets_source(alloc)));
 }

@@ -1,6 +1,6 @@
 //! Kinds of errors that the tests look at, and what they look at.
 
-use facet_format::DeserializeErrorKind;
+use facet_format::{DeserializeErrorKind, Span};
 use facet_json_core::{JsonError, JsonErrorKind, Report};
 use facet_json_serializer::JsonSerializeError;
 use facet_json_token::ScanErrorKind;
@@ -9,7 +9,6 @@ use std::fmt::Display;
 use std::process::Abort;
 
 /// What is wrong where no token stands.
-#[derive(Clone, Copy)]
 pub enum Scan {
     Char(char),
     End(&'static str),
@@ -17,7 +16,6 @@ pub enum Scan {
 }
 
 /// A kind, by what it holds.
-#[derive(Clone, Copy)]
 pub enum Sample {
     Scan(Scan),
     ScanIn(Scan, &'static str),
@@ -43,57 +41,56 @@ pub enum Sample {
 /// A kind, its name, its message and its label.
 pub type Row = (Sample, &'static str, &'static str, &'static str);
 
-fn scan_error(scan: Scan) -> ScanErrorKind {
+/// The kind of what is wrong there.
+fn scan_error(scan: &Scan) -> ScanErrorKind {
     match scan {
-        Scan::Char(character) => ScanErrorKind::UnexpectedChar(character),
-        Scan::End(place) => ScanErrorKind::UnexpectedEof(place),
+        Scan::Char(character) => ScanErrorKind::UnexpectedChar(*character),
+        Scan::End(place) => ScanErrorKind::UnexpectedEof(*place),
         Scan::Utf8 => ScanErrorKind::InvalidUtf8,
     }
 }
 
-/// The kind of the sample.
-pub fn made(alloc: Global, sample: Sample) -> Result<JsonErrorKind, AllocError> {
-    Ok(match sample {
+/// The kind of the sample, where it holds no text of its own.
+fn alone(sample: &Sample) -> JsonErrorKind {
+    match sample {
         Sample::Scan(scan) => JsonErrorKind::Scan(scan_error(scan)),
         Sample::ScanIn(scan, expected_type) => JsonErrorKind::ScanWithContext {
             error: scan_error(scan),
-            expected_type,
+            expected_type: *expected_type,
         },
-        Sample::Expected(expected) => JsonErrorKind::UnexpectedEof { expected },
-        Sample::Mismatch(expected, got) => JsonErrorKind::TypeMismatch { expected, got },
+        Sample::Expected(expected) => JsonErrorKind::UnexpectedEof {
+            expected: *expected,
+        },
+        Sample::Mismatch(expected, got) => JsonErrorKind::TypeMismatch {
+            expected: *expected,
+            got: *got,
+        },
         Sample::Missing(field) => JsonErrorKind::MissingField {
-            field,
+            field: *field,
             object_start: None,
             object_end: None,
         },
         Sample::Utf8 => JsonErrorKind::InvalidUtf8,
-        Sample::Read(refusal) => JsonErrorKind::Read(refusal),
+        Sample::Read(refusal) => JsonErrorKind::Read(*refusal),
         Sample::KeyOutside => JsonErrorKind::Write(JsonSerializeError::KeyOutsideStruct),
         Sample::NoStruct => JsonErrorKind::Write(JsonSerializeError::NoStructToEnd),
         Sample::NoList => JsonErrorKind::Write(JsonSerializeError::NoListToEnd),
         Sample::NotWritten => JsonErrorKind::Write(JsonSerializeError::OutOfMemory),
-        Sample::OutOfMemory => JsonErrorKind::OutOfMemory,
-        Sample::Unknown(field, names, suggestion) => unknown(alloc, field, names, suggestion)?,
-        Sample::Token(text, _)
-        | Sample::Value(text)
-        | Sample::Range(text, _)
-        | Sample::Key(text)
-        | Sample::Solver(text)
-        | Sample::Io(text) => with_text(sample, String::from_str(alloc, text)?),
-    })
+        _ => JsonErrorKind::OutOfMemory,
+    }
 }
 
 /// The kind of a sample that holds this text.
-fn with_text(sample: Sample, text: String) -> JsonErrorKind {
+fn with_text(sample: &Sample, text: String) -> JsonErrorKind {
     match sample {
         Sample::Token(_, expected) => JsonErrorKind::UnexpectedToken {
             got: text,
-            expected,
+            expected: *expected,
         },
         Sample::Value(_) => JsonErrorKind::InvalidValue { message: text },
         Sample::Range(_, target_type) => JsonErrorKind::NumberOutOfRange {
             value: text,
-            target_type,
+            target_type: *target_type,
         },
         Sample::Key(_) => JsonErrorKind::DuplicateKey { key: text },
         Sample::Solver(_) => JsonErrorKind::Solver(text),
@@ -115,11 +112,25 @@ fn unknown(
     })
 }
 
-/// Whether the value is displayed so.
-pub fn is_displayed<T: Display>(alloc: Global, value: &T, text: &str) -> bool {
+/// The kind of the sample.
+pub fn made(alloc: Global, sample: &Sample) -> Result<JsonErrorKind, AllocError> {
+    match sample {
+        Sample::Unknown(field, names, suggestion) => unknown(alloc, *field, *names, *suggestion),
+        Sample::Token(text, _)
+        | Sample::Value(text)
+        | Sample::Range(text, _)
+        | Sample::Key(text)
+        | Sample::Solver(text)
+        | Sample::Io(text) => Ok(with_text(sample, String::from_str(alloc, *text)?)),
+        _ => Ok(alone(sample)),
+    }
+}
+
+/// Whether the value is displayed so, or memory runs out.
+pub fn is_displayed<T: Display>(alloc: Global, value: &T, text: &str) -> Option<bool> {
     match format!(in alloc; "{value}") {
-        Ok(shown) => shown.as_str() == text,
-        Err(_) => false,
+        Ok(shown) => Some(shown.as_str() == text),
+        Err(_) => None,
     }
 }
 
@@ -131,18 +142,32 @@ pub fn is_labelled(alloc: Global, kind: &JsonErrorKind, label: &str) -> Option<b
     }
 }
 
-/// Whether the kind has this name, this message and this label.
-fn is_told(alloc: Global, kind: &JsonErrorKind, row: &Row) -> bool {
-    kind.code() == row.1
-        && is_displayed(alloc, kind, row.2)
-        && is_labelled(alloc, kind, row.3) == Some(true)
+/// Whether the error is reported so.
+pub fn is_reported(alloc: Global, error: &JsonError, source: &str, text: &str) -> bool {
+    is_displayed(alloc, &Report { error, source }, text) == Some(true)
 }
 
-/// Whether the kind of the row is told so.
-fn holds(alloc: Global, row: &Row) -> bool {
-    match made(alloc, row.0) {
-        Ok(kind) => is_told(alloc, &kind, row),
+/// Whether the error is reported with this message, at the second of three bytes.
+fn is_reported_there(alloc: Global, error: &JsonError, message: &str) -> bool {
+    match format!(in alloc; "{message} at line 1, column 2\n[x]\n ^") {
+        Ok(text) => is_reported(alloc, error, "[x]", text.as_str()),
         Err(_) => false,
+    }
+}
+
+/// Whether the error's kind has the row's name, message and label, and the error is reported.
+fn is_told(alloc: Global, error: &JsonError, row: &Row) -> bool {
+    error.kind.code() == row.1
+        && is_displayed(alloc, &error.kind, row.2) == Some(true)
+        && is_labelled(alloc, &error.kind, row.3) == Some(true)
+        && is_reported_there(alloc, error, row.2)
+}
+
+/// Whether an error of the row's kind is told so.
+fn holds(alloc: Global, row: &Row) -> bool {
+    match made(alloc, &row.0) {
+        Ok(kind) => is_told(alloc, &JsonError::new(kind, Span::new(1, 1)), row),
+        Err(AllocError) => false,
     }
 }
 
@@ -151,13 +176,4 @@ pub fn expect_told(rt: &impl Abort, alloc: Global, rows: &[Row]) {
     for row in rows {
         assert!(rt; holds(alloc, row), "{}", row.2);
     }
-}
-
-/// Whether the error is reported so.
-pub fn is_reported(alloc: Global, error: JsonError, source: &str, text: &str) -> bool {
-    let report = Report {
-        error: &error,
-        source,
-    };
-    is_displayed(alloc, &report, text)
 }

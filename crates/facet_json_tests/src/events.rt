@@ -9,16 +9,25 @@ use facet_format::{
 use std::alloc::Global;
 use std::borrow::CowStr;
 
-/// Whether a copy is equal to the event, and an event elsewhere isn't, and its kind is shown so.
-fn is_kept(alloc: Global, event: &ParseEvent<'_>, shown: &str) -> bool {
+/// Whether a copy is equal to the event, and an event elsewhere isn't, its kind is shown so, and the copy lends its text where this is so.
+fn is_kept(alloc: Global, event: &ParseEvent<'_>, shown: &str, lends: bool) -> bool {
     match event.clone(alloc) {
         Ok(mut copy) => {
-            let is_equal = copy == *event;
+            let is_equal = copy == *event && lends_text(&copy.kind) == lends;
             copy.span = Span::new(3, 5);
-            is_equal && copy != *event && shows(alloc, &event.kind, shown)
+            let is_other = copy != *event;
+            is_equal && is_other && shows(alloc, &event.kind, shown) == Some(true)
         }
         Err(_) => false,
     }
+}
+
+/// Whether the kind is a text that is lent.
+fn lends_text(kind: &ParseEventKind<'_>) -> bool {
+    matches!(
+        kind,
+        ParseEventKind::Scalar(ScalarValue::Str(CowStr::Borrowed(_)))
+    )
 }
 
 /// A kind, by what it holds: what is owned is in memory of its own, and the rest is lent.
@@ -71,73 +80,68 @@ fn owned_decimal(alloc: Global, text: &str) -> Option<Decimal<'static>> {
     }
 }
 
-/// Kinds, and how they are shown.
-static KINDS: [(Kind, &str); 19] = [
-    (Kind::Object, "StructStart(Object)"),
-    (Kind::ObjectEnd, "StructEnd"),
-    (Kind::Array, "SequenceStart(Array)"),
-    (Kind::ArrayEnd, "SequenceEnd"),
-    (Kind::Scalar(Scalar::Null), "Scalar(Null)"),
-    (Kind::Scalar(Scalar::Unit), "Scalar(Unit)"),
-    (Kind::Scalar(Scalar::Bool(true)), "Scalar(Bool(true))"),
-    (Kind::Scalar(Scalar::Char('x')), "Scalar(Char('x'))"),
-    (Kind::Scalar(Scalar::I64(-1)), "Scalar(I64(-1))"),
-    (Kind::Scalar(Scalar::U64(1)), "Scalar(U64(1))"),
-    (Kind::Scalar(Scalar::I128(-2)), "Scalar(I128(-2))"),
-    (Kind::Scalar(Scalar::U128(2)), "Scalar(U128(2))"),
+/// Kinds, how they are shown, and whether their copies lend their text.
+static KINDS: [(Kind, &str, bool); 19] = [
+    (Kind::Object, "StructStart(Object)", false),
+    (Kind::ObjectEnd, "StructEnd", false),
+    (Kind::Array, "SequenceStart(Array)", false),
+    (Kind::ArrayEnd, "SequenceEnd", false),
+    (Kind::Scalar(Scalar::Null), "Scalar(Null)", false),
+    (Kind::Scalar(Scalar::Unit), "Scalar(Unit)", false),
+    (
+        Kind::Scalar(Scalar::Bool(true)),
+        "Scalar(Bool(true))",
+        false,
+    ),
+    (Kind::Scalar(Scalar::Char('x')), "Scalar(Char('x'))", false),
+    (Kind::Scalar(Scalar::I64(-1)), "Scalar(I64(-1))", false),
+    (Kind::Scalar(Scalar::U64(1)), "Scalar(U64(1))", false),
+    (Kind::Scalar(Scalar::I128(-2)), "Scalar(I128(-2))", false),
+    (Kind::Scalar(Scalar::U128(2)), "Scalar(U128(2))", false),
     (
         Kind::Scalar(Scalar::Bytes(&[1, 255])),
         "Scalar(Bytes([1, 255]))",
+        false,
     ),
-    (Kind::Scalar(Scalar::Text("ab")), "Scalar(Str(\"ab\"))"),
+    (
+        Kind::Scalar(Scalar::Text("ab")),
+        "Scalar(Str(\"ab\"))",
+        true,
+    ),
     (
         Kind::Scalar(Scalar::Decimal("1.50")),
         "Scalar(Decimal(Decimal(\"1.50\")))",
+        false,
     ),
     (
         Kind::Key("ab"),
         "FieldKey(FieldKey { name: \"ab\", hint: KeyValue })",
+        false,
     ),
-    (Kind::OwnedText("c"), "Scalar(Str(\"c\"))"),
+    (Kind::OwnedText("c"), "Scalar(Str(\"c\"))", false),
     (
         Kind::OwnedKey("c"),
         "FieldKey(FieldKey { name: \"c\", hint: KeyValue })",
+        false,
     ),
     (
         Kind::OwnedDecimal("1.50"),
         "Scalar(Decimal(Decimal(\"1.50\")))",
+        false,
     ),
 ];
 
 /// Whether an event of this kind is copied and shown so.
-fn holds(alloc: Global, kind: Kind, shown: &str) -> bool {
-    match made(alloc, kind) {
-        Some(event) => is_kept(alloc, &event, shown),
+fn holds(alloc: Global, row: &(Kind, &str, bool)) -> bool {
+    match made(alloc, row.0) {
+        Some(event) => is_kept(alloc, &event, row.1, row.2),
         None => false,
-    }
-}
-
-/// Whether a copy of an event of this kind has this text, borrowed.
-fn copy_borrows(alloc: Global, kind: Kind, text: &str) -> Option<bool> {
-    let event = made(alloc, kind)?;
-    match event.clone(alloc) {
-        Ok(copy) => Some(is_borrowed(&copy.kind, text)),
-        Err(_) => None,
-    }
-}
-
-fn is_borrowed(kind: &ParseEventKind<'_>, text: &str) -> bool {
-    match kind {
-        ParseEventKind::Scalar(ScalarValue::Str(CowStr::Borrowed(borrowed))) => *borrowed == text,
-        _ => false,
     }
 }
 
 #[test]
 fn events_are_copied_and_shown(rt: HostRuntime) {
-    let alloc = rt.alloc();
-    for &(kind, shown) in &KINDS {
-        assert!(rt; holds(alloc, kind, shown), "{shown}");
+    for row in &KINDS {
+        assert!(rt; holds(rt.alloc(), row), "{}", row.1);
     }
-    assert!(rt; copy_borrows(alloc, Kind::Scalar(Scalar::Text("ab")), "ab") == Some(true));
 }

@@ -1,33 +1,75 @@
 //! Points that are forgotten: nothing else changes.
 
-use facet_format::{FormatParser, ParseError, ParseEvent, ParseEventKind, SavePoint, ScalarValue};
+use facet_format::{
+    DeserializeErrorKind, FormatParser, ParseError, ParseEventKind, SavePoint, ScalarValue, Span,
+};
 use facet_json_parser::JsonParser;
+use std::alloc::Global;
 
-/// The number of the event, where it is one.
-fn number_of(event: Option<ParseEvent<'_>>) -> Option<u64> {
-    match event {
-        Some(event) => match &event.kind {
-            ParseEventKind::Scalar(ScalarValue::U64(number)) => Some(*number),
-            _ => None,
-        },
-        None => None,
-    }
+/// A call of a parser, and what it gives.
+enum Step {
+    /// The next event comes.
+    GoesOn,
+    /// This number is the next event.
+    Gives(u64),
+    /// A point is kept under this number.
+    Keeps(u64),
+    /// The next event is refused, for the semicolon.
+    Refuses,
+    /// The point of this number is forgotten.
+    Forget(u64),
+    /// The parser goes back to the point of this number.
+    Restore(u64),
 }
 
-/// The number of the next event, where it is one.
-fn next_number<'t>(parser: &mut JsonParser<'_>) -> Result<Option<u64>, ParseError<'t>> {
-    match parser.next_event() {
-        Ok(event) => Ok(number_of(event)),
-        Err(refusal) => Err(refusal),
-    }
-}
+/// How a semicolon after two bytes is refused.
+const SEMICOLON: ParseError<'static> = ParseError {
+    span: Span { offset: 2, len: 1 },
+    kind: DeserializeErrorKind::UnexpectedChar {
+        ch: ';',
+        expected: "valid JSON token",
+    },
+};
+
+/// A point is kept before each of two numbers. The second one is forgotten, and one that is not there: the list goes on where it was,
+/// with another point. The first point is still there.
+static LIST: [Step; 12] = [
+    Step::GoesOn,
+    Step::Keeps(1),
+    Step::Gives(1),
+    Step::Keeps(2),
+    Step::Gives(2),
+    Step::Forget(2),
+    Step::Forget(3),
+    Step::Restore(2),
+    Step::Gives(3),
+    Step::Keeps(3),
+    Step::Restore(1),
+    Step::Gives(1),
+];
+
+/// The refusal of what follows the first number is the same once the point before that is forgotten.
+static REFUSED: [Step; 7] = [
+    Step::GoesOn,
+    Step::Keeps(1),
+    Step::Gives(1),
+    Step::Refuses,
+    Step::Forget(1),
+    Step::Restore(1),
+    Step::Refuses,
+];
 
 /// Whether this number is the next event.
 fn gives(parser: &mut JsonParser<'_>, number: u64) -> bool {
-    match next_number(parser) {
-        Ok(Some(given)) => given == number,
+    match parser.next_event() {
+        Ok(Some(event)) => event.kind == ParseEventKind::Scalar(ScalarValue::U64(number)),
         _ => false,
     }
+}
+
+/// Whether there is a next event.
+fn goes_on(parser: &mut JsonParser<'_>) -> bool {
+    parser.next_event().is_ok()
 }
 
 /// Whether a point is kept here under this number.
@@ -38,55 +80,51 @@ fn keeps(parser: &mut JsonParser<'_>, number: u64) -> bool {
     }
 }
 
-/// Whether there is a next event.
-fn goes_on(parser: &mut JsonParser<'_>) -> bool {
-    next_number(parser).is_ok()
+/// Whether the next event is refused, for the semicolon.
+fn refuses(parser: &mut JsonParser<'_>) -> bool {
+    match parser.next_event() {
+        Ok(_) => false,
+        Err(refusal) => refusal == SEMICOLON,
+    }
 }
 
-/// How the next event is refused, if it is.
-fn refusal(parser: &mut JsonParser<'_>) -> Option<ParseError<'static>> {
-    next_number(parser).err()
+/// Forgets the point of this number.
+fn forgets(parser: &mut JsonParser<'_>, number: u64) -> bool {
+    parser.forget(SavePoint(number));
+    true
 }
 
-/// Whether the first two numbers of a list come, and a point is kept before each.
-fn is_kept_twice(parser: &mut JsonParser<'_>) -> bool {
-    let first = goes_on(parser) && keeps(parser, 1) && gives(parser, 1);
-    first && keeps(parser, 2) && gives(parser, 2)
+/// Goes back to the point of this number.
+fn restores(parser: &mut JsonParser<'_>, number: u64) -> bool {
+    parser.restore(SavePoint(number));
+    true
 }
 
-/// Forgets the second point, and one that is not there. Whether the list goes on where it was, with another point.
-fn forgets_the_second(parser: &mut JsonParser<'_>) -> bool {
-    parser.forget(SavePoint(2));
-    parser.forget(SavePoint(3));
-    parser.restore(SavePoint(2));
-    gives(parser, 3) && keeps(parser, 3)
+/// Whether a call gives what it should.
+fn is_right(parser: &mut JsonParser<'_>, step: &Step) -> bool {
+    match step {
+        Step::GoesOn => goes_on(parser),
+        Step::Gives(number) => gives(parser, *number),
+        Step::Keeps(number) => keeps(parser, *number),
+        Step::Refuses => refuses(parser),
+        Step::Forget(number) => forgets(parser, *number),
+        Step::Restore(number) => restores(parser, *number),
+    }
 }
 
-/// Whether the first point is still there.
-fn goes_back_to_the_first(parser: &mut JsonParser<'_>) -> bool {
-    parser.restore(SavePoint(1));
-    gives(parser, 1)
+/// The number of the first call that doesn't give what it should.
+fn first_wrong(alloc: Global, input: &[u8], steps: &[Step]) -> Option<usize> {
+    let mut parser = JsonParser::new(alloc, input);
+    for (number, step) in steps.iter().enumerate() {
+        if !is_right(&mut parser, step) {
+            return Some(number);
+        }
+    }
+    None
 }
 
 #[test]
 fn a_point_that_is_forgotten_is_gone(rt: HostRuntime) {
-    let mut parser = JsonParser::new(rt.alloc(), b"[1,2,3]");
-    assert!(rt; is_kept_twice(&mut parser));
-    assert!(rt; forgets_the_second(&mut parser));
-    assert!(rt; goes_back_to_the_first(&mut parser));
-}
-
-/// Whether the refusal of what follows the first number is the same once the point before that is forgotten.
-fn is_refused_again(parser: &mut JsonParser<'_>) -> bool {
-    let refused = refusal(parser);
-    parser.forget(SavePoint(1));
-    parser.restore(SavePoint(1));
-    refused.is_some() && refusal(parser) == refused
-}
-
-#[test]
-fn a_refusal_stays_when_a_point_is_forgotten(rt: HostRuntime) {
-    let mut parser = JsonParser::new(rt.alloc(), b"[1;");
-    assert!(rt; goes_on(&mut parser) && keeps(&mut parser, 1) && gives(&mut parser, 1));
-    assert!(rt; is_refused_again(&mut parser));
+    assert!(rt; first_wrong(rt.alloc(), b"[1,2,3]", &LIST) == None);
+    assert!(rt; first_wrong(rt.alloc(), b"[1;", &REFUSED) == None);
 }

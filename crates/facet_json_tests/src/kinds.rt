@@ -1,4 +1,4 @@
-//! Kinds: their name, their message and their label.
+//! Kinds: their name, their message and their label, and reports of them.
 
 use crate::error_samples::{Row, Sample, Scan, expect_told};
 use crate::own::{READ, WRITTEN};
@@ -140,7 +140,7 @@ static ROWS: [Row; 21] = [
 ];
 
 #[test]
-fn each_kind_is_told(rt: HostRuntime) {
+fn each_kind_is_told_and_shown(rt: HostRuntime) {
     let alloc = rt.alloc();
     expect_told(&rt, alloc, &ROWS);
     expect_told(&rt, alloc, &READ);

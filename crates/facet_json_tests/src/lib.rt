@@ -20,13 +20,9 @@ mod changes;
 #[cfg(test)]
 mod contents;
 #[cfg(test)]
-mod copies;
-#[cfg(test)]
 mod decimals;
 #[cfg(test)]
 mod decoding_allocations;
-#[cfg(test)]
-mod depth;
 #[cfg(test)]
 mod displayed;
 #[cfg(test)]
@@ -52,8 +48,6 @@ mod options;
 #[cfg(test)]
 mod own;
 #[cfg(test)]
-mod owned_decimals;
-#[cfg(test)]
 mod parsers;
 #[cfg(test)]
 mod past_ascii;
@@ -64,7 +58,7 @@ mod pieces_allocations;
 #[cfg(test)]
 mod pointers;
 #[cfg(test)]
-mod reports;
+mod readers;
 #[cfg(test)]
 mod rows;
 #[cfg(test)]
@@ -79,8 +73,6 @@ mod shown;
 mod sorting;
 #[cfg(test)]
 mod sources;
-#[cfg(test)]
-mod strict;
 #[cfg(test)]
 mod transcoded;
 #[cfg(test)]

@@ -136,11 +136,6 @@ impl<'de> FormatParser<'de> for Nulls {
     }
 }
 
-/// How many events come where this many are left.
-fn counted(left: usize) -> Result<usize, ParseError<'static>> {
-    count(&mut Nulls { left })
-}
-
 /// How many values are skipped before a refusal.
 fn skipped<'de, P: FormatParser<'de>>(parser: &mut P) -> usize
     requires fits { P.ahead parser.old < 2 ^ 64 }
@@ -157,33 +152,22 @@ fn raw<'de, P: FormatParser<'de>>(parser: &mut P) -> Option<&'de str> {
     parser.capture_raw().ok().flatten()
 }
 
-/// How many values are skipped where this many are left.
-fn skipped_of(left: usize) -> usize {
-    skipped(&mut Nulls { left })
-}
-
-/// The raw text of the first of so many values.
-fn raw_of(left: usize) -> Option<&'static str> {
-    raw(&mut Nulls { left })
-}
-
 /// Whether a peek shows what the next call gives.
-fn peek_shows_next(left: usize) -> bool {
-    match peek_and_next(&mut Nulls { left }) {
+fn peek_shows_next<'de, P: FormatParser<'de>>(parser: &mut P) -> bool {
+    match peek_and_next(parser) {
         Some((shown, event)) => shown == event,
         None => false,
     }
 }
 
 #[test]
-fn events_come_and_values_are_skipped(rt: HostRuntime) {
-    assert!(rt; counted(3) == Ok(3) && peek_shows_next(3));
-    assert!(rt; skipped_of(3) == 3 && skipped_of(0) == 0);
-    assert!(rt; raw_of(1) == Some("null") && raw_of(0) == None);
-}
-
-#[test]
-fn a_span_is_always_there_and_refused_growths_are_kind_9(rt: HostRuntime) {
+fn generic_code_runs_over_a_parser(rt: HostRuntime) {
+    assert!(rt; count(&mut Nulls { left: 3 }) == Ok(3));
+    assert!(rt; peek_shows_next(&mut Nulls { left: 3 }));
+    assert!(rt; skipped(&mut Nulls { left: 3 }) == 3);
+    assert!(rt; skipped(&mut Nulls { left: 0 }) == 0);
+    assert!(rt; raw(&mut Nulls { left: 1 }) == Some("null"));
+    assert!(rt; raw(&mut Nulls { left: 0 }) == None);
     assert!(rt; position(&Nulls { left: 4 }) == 7);
     assert!(rt; position(&Nulls { left: usize::MAX }) == usize::MAX);
     assert!(rt; code_of_growth(&Nulls { left: 4 }) == 9);

@@ -1,9 +1,6 @@
 //! Kinds whose texts hold characters past ASCII.
 
-use crate::error_samples::{Row, Sample, Scan, is_reported, made};
-use facet_format::Span;
-use facet_json_core::{JsonError, JsonErrorKind};
-use std::alloc::Global;
+use crate::error_samples::{Row, Sample, Scan};
 
 pub static PAST_ASCII: [Row; 20] = [
     (
@@ -122,27 +119,3 @@ pub static PAST_ASCII: [Row; 20] = [
         "I/O error",
     ),
 ];
-
-/// Whether the kind is reported with this message.
-fn is_shown(alloc: Global, kind: JsonErrorKind, text: &str) -> bool {
-    let error = JsonError::new(kind, Span::new(1, 1));
-    match format!(in alloc; "{text} at line 1, column 2\n[x]\n ^") {
-        Ok(shown) => is_reported(alloc, error, "[x]", shown.as_str()),
-        Err(_) => false,
-    }
-}
-
-/// Whether the kind of the sample is.
-fn shows(alloc: Global, sample: Sample, text: &str) -> bool {
-    match made(alloc, sample) {
-        Ok(kind) => is_shown(alloc, kind, text),
-        Err(_) => false,
-    }
-}
-
-#[test]
-fn each_kind_is_shown(rt: HostRuntime) {
-    for row in &PAST_ASCII {
-        assert!(rt; shows(rt.alloc(), row.0, row.2), "{}", row.2);
-    }
-}

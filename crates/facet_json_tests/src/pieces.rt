@@ -2,7 +2,7 @@
 
 use crate::rows::{ROWS, Row};
 use crate::sources::Halves;
-use facet_json_scan::{Marked, ScanReadError, scan_reader};
+use facet_json_scan::{Marked, ScanReadError, Scanned, scan_reader};
 use std::alloc::Global;
 use std::io::Read;
 
@@ -10,67 +10,65 @@ use std::io::Read;
 static STEPS: [usize; 7] = [1, 2, 3, 15, 16, 17, usize::MAX];
 
 /// More reads than any row takes.
-const MANY_READS: usize = 100;
+pub const MANY_READS: usize = 100;
 
-/// Whether pieces of this length give the row.
-fn is_read(alloc: Global, row: &Row, step: usize) -> bool {
+/// Whether pieces of this length give the row, but where the read of this number comes, which fails: then that is told. None where memory
+/// runs out.
+pub fn is_read(alloc: Global, row: &Row, step: usize, read: usize) -> Option<bool> {
     if step == 0 {
-        return false;
+        return Some(false);
     }
-    let mut source = Halves::new(row.input, step.min(65_536), MANY_READS);
+    let mut source = Halves::new(row.input, step.min(65_536), read);
     let scan = scan_reader(alloc, &mut source, step, row.comments);
-    row.is(&scan) && source.was_asked_well() && !source.has_failed()
+    is_right(&scan, row, &source, read < MANY_READS)
+}
+
+/// Whether this is the row's scan, of a source that was asked well; or its failure, where it may fail. None where memory ran out.
+fn is_right(
+    scan: &Result<Scanned, ScanReadError>,
+    row: &Row,
+    source: &Halves<'_>,
+    may_fail: bool,
+) -> Option<bool> {
+    match scan {
+        Ok(scanned) => Some(row.is(scanned) && source.was_asked_well() && !source.has_failed()),
+        Err(ScanReadError::Io) => Some(may_fail && source.has_failed()),
+        Err(ScanReadError::Memory) => None,
+    }
 }
 
 /// Whether a reader of the row's input gives the row.
 fn is_read_from<R: Read>(alloc: Global, row: &Row, reader: &mut R) -> bool {
     let mut source = Marked::new(reader);
-    row.is(&scan_reader(alloc, &mut source, 2, row.comments))
-}
-
-/// Whether the read of this number, where it comes, is told of, and else the row is given.
-fn is_told(alloc: Global, row: &Row, step: usize, read: usize) -> bool {
-    if step == 0 {
-        return false;
-    }
-    let mut source = Halves::new(row.input, step, read);
-    let scan = scan_reader(alloc, &mut source, step, row.comments);
-    if source.has_failed() {
-        matches!(scan, Err(ScanReadError::Io))
-    } else {
-        row.is(&scan)
+    match scan_reader(alloc, &mut source, 2, row.comments) {
+        Ok(scanned) => row.is(&scanned),
+        Err(_) => false,
     }
 }
 
 /// How many bytes are read of the input, one at a time.
-fn bytes_read(alloc: Global, input: &[u8]) -> Option<usize> {
-    let mut source = Halves::new(input, 1, MANY_READS);
-    let scanned = scan_reader(alloc, &mut source, 1, false).ok()?;
-    Some(scanned.buf.len())
-}
-
-/// Whether a reader of the row's input gives the row, and pieces of each length do.
-fn is_read_in_pieces(alloc: Global, row: &Row) -> bool {
-    for step in &STEPS {
-        if !is_read(alloc, row, *step) {
-            return false;
-        }
+fn bytes_read(alloc: Global, input: &[u8]) -> usize {
+    match scan_reader(alloc, &mut Halves::new(input, 1, MANY_READS), 1, false) {
+        Ok(scanned) => scanned.buf.len(),
+        Err(_) => 0,
     }
-    let mut reader = row.input;
-    is_read_from(alloc, row, &mut reader)
 }
 
 #[test]
 fn pieces_make_no_difference(rt: HostRuntime) {
     let alloc = rt.alloc();
     for row in &ROWS {
-        assert!(rt; is_read_in_pieces(alloc, row));
+        for step in &STEPS {
+            assert!(rt; is_read(alloc, row, *step, MANY_READS) == Some(true));
+        }
+        let mut reader = row.input;
+        assert!(rt; is_read_from(alloc, row, &mut reader));
         for step in 1..4 {
             for read in 0..MANY_READS {
-                assert!(rt; is_told(alloc, row, step, read));
+                assert!(rt; is_read(alloc, row, step, read) == Some(true));
             }
         }
     }
-    assert!(rt; bytes_read(alloc, b"[1 x2,3]") == Some(4));
-    assert!(rt; bytes_read(alloc, b"[1, 2,3]") == Some(8));
+    assert!(rt; bytes_read(alloc, b"[1 x2,3]") == 4);
+    assert!(rt; bytes_read(alloc, b"[1, 2,3]") == 8);
 }

@@ -1,54 +1,13 @@
 //! A search by a JSON pointer, with the document and the pointers of RFC 6901, section 5, and with others.
 
-use crate::pointers::{DOCUMENT, NAMED, REFUSED, is_document};
-use facet_format::{DeserializeError, FormatParser, Span};
+use crate::changes::is_document;
+use crate::pointers::{DOCUMENT, NAMED, Named, REFUSED};
+use facet_format::{FormatParser, Span};
 use facet_json::steps::{FindError, find_pointer};
-use facet_json::{PointerError, Tree, read_tree};
+use facet_json::{PointerError, read_tree};
 use facet_json_parser::JsonParser;
 use std::alloc::Global;
 use std::process::Abort;
-
-/// Whether the pointer names this value of the input, which is read from where the search ends.
-fn names(alloc: Global, input: &str, pointer: &str, wanted: &str) -> bool {
-    let mut parser = JsonParser::new(alloc, input.as_bytes());
-    matches!(find_pointer(&mut parser, pointer), Ok(true))
-        && is_read(alloc, read_tree(alloc, &mut parser), wanted)
-}
-
-/// Whether this value was read.
-fn is_read(alloc: Global, read: Result<Tree, DeserializeError<'_>>, wanted: &str) -> bool {
-    match read {
-        Ok(found) => is_document(alloc, &found, wanted),
-        Err(_) => false,
-    }
-}
-
-/// An input, a pointer, and the value that it names.
-type Named = (&'static str, &'static str, &'static str);
-
-/// Fails where a pointer doesn't name its row's value.
-fn expect_named(rt: &impl Abort, alloc: Global, rows: &[Named]) {
-    for &(input, pointer, wanted) in rows {
-        assert!(rt;
-            names(alloc, input, pointer, wanted),
-            "{pointer} of {input}"
-        );
-    }
-}
-
-/// Whether the pointer names nothing in the input, of which so many bytes are passed.
-fn lacks(alloc: Global, input: &str, pointer: &str, passed: usize) -> bool {
-    let mut parser = JsonParser::new(alloc, input.as_bytes());
-    matches!(find_pointer(&mut parser, pointer), Ok(false)) && has_passed(&parser, passed)
-}
-
-/// Whether the last token ends there.
-fn has_passed(parser: &JsonParser<'_>, end: usize) -> bool {
-    match parser.current_span() {
-        Some(span) => span.end() == end,
-        None => false,
-    }
-}
 
 /// Inputs, pointers that lead into them, and what these name.
 static WITHIN: [Named; 19] = [
@@ -88,6 +47,17 @@ static TWICE: [Named; 3] = [
     (r#"{"a":1,"a":2}"#, "/a", "1"),
     (r#"{"a":{"b":1},"a":{"b":2}}"#, "/a/b", "1"),
     (r#"{"\u0061":1,"a":2}"#, "/a", "1"),
+];
+
+/// Inputs with what no parser takes where the search does not come, pointers, and what they name: what stands behind the value is not
+/// looked at, and before it no text is decoded but of keys.
+static NOT_PASSED: [Named; 6] = [
+    ("{\"a\":1", "/a", "1"),
+    ("{\"a\":[7", "/a/0", "7"),
+    ("[1,2", "/1", "2"),
+    (r#"["\ud800",2]"#, "/1", "2"),
+    (r#"{"b":"\ud800","a":2}"#, "/a", "2"),
+    (r#"{"b":{"\ud800":1},"a":2}"#, "/a", "2"),
 ];
 
 /// Pointers that name nothing in that document, and how much of it is passed: the whole object where the first token names nothing, and
@@ -137,25 +107,6 @@ static PASSED: [(&str, &str, usize); 14] = [
     ),
 ];
 
-/// Whether the text is refused so, and the input is read from its start then.
-fn refuses(alloc: Global, text: &str, wanted: PointerError) -> bool {
-    let mut parser = JsonParser::new(alloc, b"[7]");
-    let refused = match find_pointer(&mut parser, text) {
-        Err(FindError::Pointer(error)) => error == wanted,
-        _ => false,
-    };
-    refused && matches!(find_pointer(&mut parser, "/0"), Ok(true)) && has_passed(&parser, 1)
-}
-
-/// Whether the parser refuses what the search passes, with this span.
-fn stops(alloc: Global, input: &str, pointer: &str, start: usize, length: usize) -> bool {
-    let mut parser = JsonParser::new(alloc, input.as_bytes());
-    match find_pointer(&mut parser, pointer) {
-        Err(FindError::Read(error)) => error.span == Some(Span::new(start, length)),
-        _ => false,
-    }
-}
-
 /// Inputs, pointers, and where the parser refuses what the search passes: an offset and a length.
 static STOPPED: [(&str, &str, usize, usize); 9] = [
     ("", "/a", 0, 0),
@@ -169,64 +120,105 @@ static STOPPED: [(&str, &str, usize, usize); 9] = [
     ("]", "/0", 0, 1),
 ];
 
-/// Inputs with what no parser takes where the search does not come, pointers, and what they name: what stands behind the value is not
-/// looked at, and before it no text is decoded but of keys.
-static NOT_PASSED: [Named; 6] = [
-    ("{\"a\":1", "/a", "1"),
-    ("{\"a\":[7", "/a/0", "7"),
-    ("[1,2", "/1", "2"),
-    (r#"["\ud800",2]"#, "/1", "2"),
-    (r#"{"b":"\ud800","a":2}"#, "/a", "2"),
-    (r#"{"b":{"\ud800":1},"a":2}"#, "/a", "2"),
-];
+/// How a search ends.
+#[derive(Clone, Copy)]
+enum End<'a> {
+    /// At the value of this document, which is read from there.
+    Names(&'a str),
+    /// With nothing, and so many bytes are passed.
+    Lacks(usize),
+    /// Where the parser refuses what is passed, at this offset and of this length.
+    Stops(usize, usize),
+    /// At once, as the text is no pointer.
+    Refused(PointerError),
+}
+
+/// Whether the last token ends there.
+fn has_passed(parser: &JsonParser<'_>, end: usize) -> bool {
+    match parser.current_span() {
+        Some(span) => span.end() == end,
+        None => false,
+    }
+}
+
+/// Whether the pointer names something in what comes.
+fn finds(parser: &mut JsonParser<'_>, pointer: &str) -> bool {
+    matches!(find_pointer(parser, pointer), Ok(true))
+}
+
+/// Whether the value of this document is read.
+fn reads(alloc: Global, parser: &mut JsonParser<'_>, wanted: &str) -> bool {
+    match read_tree(alloc, parser) {
+        Ok(found) => is_document(alloc, &found, wanted) == Some(true),
+        Err(_) => false,
+    }
+}
+
+/// Whether the search ends so. After what is no pointer the input is read from its start.
+fn ends(alloc: Global, parser: &mut JsonParser<'_>, pointer: &str, end: End<'_>) -> bool {
+    match (find_pointer(parser, pointer), end) {
+        (Ok(true), End::Names(wanted)) => reads(alloc, parser, wanted),
+        (Ok(false), End::Lacks(passed)) => has_passed(parser, passed),
+        (Err(FindError::Read(error)), End::Stops(start, length)) => {
+            error.span == Some(Span::new(start, length))
+        }
+        (Err(FindError::Pointer(error)), End::Refused(wanted)) => {
+            error == wanted && finds(parser, "/0") && has_passed(parser, 1)
+        }
+        _ => false,
+    }
+}
+
+/// Fails where a search in the input does not end so.
+fn expect(rt: &impl Abort, alloc: Global, input: &str, pointer: &str, end: End<'_>) {
+    let mut parser = JsonParser::new(alloc, input.as_bytes());
+    assert!(rt;
+        ends(alloc, &mut parser, pointer, end),
+        "{pointer} of {input}"
+    );
+}
+
+/// Fails where a pointer doesn't name its row's value.
+fn expect_named(rt: &impl Abort, alloc: Global, rows: &[Named]) {
+    for &(input, pointer, wanted) in rows {
+        expect(rt, alloc, input, pointer, End::Names(wanted));
+    }
+}
 
 /// Whether a value that comes after a member was read is found from there.
-fn finds_later(alloc: Global, input: &str) -> bool {
-    let mut parser = JsonParser::new(alloc, input.as_bytes());
-    matches!(find_pointer(&mut parser, "/a"), Ok(true))
-        && matches!(find_pointer(&mut parser, "/0/b"), Ok(true))
-        && matches!(find_pointer(&mut parser, ""), Ok(true))
-        && read_tree(alloc, &mut parser).is_ok()
-        && has_passed(&parser, 13)
+fn finds_later(alloc: Global, parser: &mut JsonParser<'_>) -> bool {
+    finds(parser, "/a")
+        && finds(parser, "/0/b")
+        && finds(parser, "")
+        && read_tree(alloc, parser).is_ok()
+        && has_passed(parser, 13)
 }
 
 #[test]
 fn a_pointer_leads_to_its_value(rt: HostRuntime) {
     let alloc = rt.alloc();
-    for &(pointer, wanted) in &NAMED {
-        assert!(rt; names(alloc, DOCUMENT, pointer, wanted), "at {pointer}");
-    }
+    expect_named(&rt, alloc, &NAMED);
     expect_named(&rt, alloc, &WITHIN);
     expect_named(&rt, alloc, &ESCAPED);
     expect_named(&rt, alloc, &TWICE);
     expect_named(&rt, alloc, &NOT_PASSED);
-    assert!(rt; finds_later(alloc, r#"{"a":[{"b":12},3]}"#));
+    let mut parser = JsonParser::new(alloc, br#"{"a":[{"b":12},3]}"#);
+    assert!(rt; finds_later(alloc, &mut parser));
 }
 
 #[test]
-fn other_pointers_name_nothing(rt: HostRuntime) {
+fn other_pointers_name_nothing_or_are_refused(rt: HostRuntime) {
     let alloc = rt.alloc();
     for &(pointer, passed) in &UNNAMED {
-        assert!(rt; lacks(alloc, DOCUMENT, pointer, passed), "at {pointer}");
+        expect(&rt, alloc, DOCUMENT, pointer, End::Lacks(passed));
     }
     for &(input, pointer, passed) in &PASSED {
-        assert!(rt;
-            lacks(alloc, input, pointer, passed),
-            "{pointer} of {input}"
-        );
+        expect(&rt, alloc, input, pointer, End::Lacks(passed));
     }
-}
-
-#[test]
-fn refusals_are_told(rt: HostRuntime) {
-    let alloc = rt.alloc();
     for &(text, wanted) in &REFUSED {
-        assert!(rt; refuses(alloc, text, wanted), "of {text}");
+        expect(&rt, alloc, "[7]", text, End::Refused(wanted));
     }
     for &(input, pointer, start, length) in &STOPPED {
-        assert!(rt;
-            stops(alloc, input, pointer, start, length),
-            "{pointer} of {input}"
-        );
+        expect(&rt, alloc, input, pointer, End::Stops(start, length));
     }
 }

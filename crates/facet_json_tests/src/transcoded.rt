@@ -1,49 +1,11 @@
 //! How `transcode` refuses where a parser has read some events before.
 
-use facet_format::{DeserializeError, DeserializeErrorKind, FormatParser, Span};
+use crate::written::is_text;
+use facet_format::{DeserializeErrorKind, FormatParser, Span};
 use facet_json_core::{TranscodeError, transcode};
 use facet_json_parser::JsonParser;
-use facet_json_serializer::{JsonSerializeError, JsonSerializer};
+use facet_json_serializer::JsonSerializer;
 use std::alloc::Global;
-
-/// How `transcode` refuses after so many events of the input, where the parser does, and nothing was written before.
-fn refused_after(alloc: Global, input: &[u8], events: usize) -> Option<DeserializeError<'static>> {
-    let mut parser = JsonParser::new(alloc, input);
-    if passes(&mut parser, events) {
-        refusal(alloc, &mut parser)
-    } else {
-        None
-    }
-}
-
-/// Whether so many events come.
-fn passes(parser: &mut JsonParser<'_>, events: usize) -> bool {
-    for _ in 0..events {
-        if parser.next_event().is_err() {
-            return false;
-        }
-    }
-    true
-}
-
-/// How `transcode` refuses what comes, where the parser does, and nothing was written before.
-fn refusal(alloc: Global, parser: &mut JsonParser<'_>) -> Option<DeserializeError<'static>> {
-    let mut serializer = JsonSerializer::new(alloc);
-    let passed = transcode(parser, &mut serializer);
-    let is_empty = is_empty(serializer.finish());
-    match passed {
-        Err(TranscodeError::Read(error)) if is_empty => Some(error),
-        _ => None,
-    }
-}
-
-/// Whether nothing was written.
-fn is_empty(written: Result<Vec<u8>, JsonSerializeError>) -> bool {
-    match written {
-        Ok(text) => text.is_empty(),
-        Err(_) => false,
-    }
-}
 
 /// A key where a value is to begin.
 const KEY: DeserializeErrorKind<'static> = DeserializeErrorKind::TypeMismatch {
@@ -88,13 +50,38 @@ static ROWS: [Row; 8] = [
     (b"[1,", 2, NO_ITEM, 3, 0),
 ];
 
+/// Whether so many events come.
+fn passes(parser: &mut JsonParser<'_>, events: usize) -> bool {
+    for _ in 0..events {
+        if parser.next_event().is_err() {
+            return false;
+        }
+    }
+    true
+}
+
+/// Whether the refusal is the parser's, and the row's.
+fn is_refusal(answer: &Result<(), TranscodeError<'_>>, row: &Row) -> bool {
+    match answer {
+        Err(TranscodeError::Read(error)) => {
+            error.kind == row.2 && error.span == Some(Span::new(row.3, row.4))
+        }
+        _ => false,
+    }
+}
+
+/// Whether `transcode` refuses what comes as the row says, and nothing was written before.
+fn is_refused(alloc: Global, parser: &mut JsonParser<'_>, row: &Row) -> bool {
+    let mut serializer = JsonSerializer::new(alloc);
+    let passed = transcode(parser, &mut serializer);
+    is_refusal(&passed, row) && is_text(&serializer.finish(), "") == Some(true)
+}
+
 #[test]
 fn no_value_begins_or_no_event_comes(rt: HostRuntime) {
-    for &(input, events, kind, offset, len) in &ROWS {
-        let refusal = DeserializeError {
-            kind,
-            span: Some(Span { offset, len }),
-        };
-        assert!(rt; refused_after(rt.alloc(), input, events) == Some(refusal));
+    let alloc = rt.alloc();
+    for row in &ROWS {
+        let mut parser = JsonParser::new(alloc, row.0);
+        assert!(rt; passes(&mut parser, row.1) && is_refused(alloc, &mut parser, row));
     }
 }

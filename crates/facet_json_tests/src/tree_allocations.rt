@@ -2,15 +2,15 @@
 //! of their requests for memory, which is refused, and they have to pass in every such run. Each row is tried twice, its set-up too: as
 //! one request is refused in a run, memory runs out in one of the two at most, and the other gives the whole answer.
 
-use crate::samples::{each_kind, object};
+use crate::displayed::SHOWN;
+use crate::error_samples::is_displayed;
+use crate::readers::{Entry, read_by};
+use crate::samples::{EACH_KIND, list_of};
 use crate::twice::but_once;
-use facet_format::{Decimal, DeserializeError, DeserializeErrorKind};
+use crate::values::shows;
+use facet_format::{DeserializeError, DeserializeErrorKind};
 use facet_json_core::RawJson;
-use facet_json_parser::JsonParser;
-use facet_json_tree::{
-    OwnedDecimal, Tree, read_tree, tree_from_slice, tree_from_slice_jsonc, tree_from_slice_strict,
-    tree_from_slice_within, tree_from_slice_within_jsonc, tree_from_slice_within_strict,
-};
+use facet_json_tree::Tree;
 use std::alloc::{AllocError, Global};
 
 /// Whether the copy is the same, or memory runs out.
@@ -21,53 +21,37 @@ fn is_copied(alloc: Global, tree: &Tree) -> Option<bool> {
     }
 }
 
-/// Whether a value is copied, or memory runs out: for one that holds no text and no others it does not.
-fn is_copied_alone(alloc: Global, tree: &Tree) -> Option<bool> {
-    let is_small = matches!(
-        tree,
-        Tree::Unit | Tree::Char(_) | Tree::I64(_) | Tree::I128(_) | Tree::U128(_)
-    );
-    match is_copied(alloc, tree) {
-        None if is_small => Some(false),
-        told => told,
+/// Whether a list of a value of each kind is copied and shown, and each item is copied by itself.
+fn are_copied(alloc: Global) -> Option<bool> {
+    match list_of(alloc, &EACH_KIND) {
+        Some(tree) => is_copied_with_items(alloc, &tree),
+        None => None,
     }
 }
 
-/// Whether a list of a value of each kind, which has so many items, is copied, and each item by itself.
-fn are_copied(alloc: Global, count: usize) -> Option<bool> {
-    match each_kind(alloc) {
-        Ok(tree) => {
-            if items_are_copied(alloc, tree.as_list().unwrap_or(&[]), count)? {
-                is_copied(alloc, &tree)
-            } else {
-                Some(false)
-            }
-        }
-        Err(AllocError) => None,
-    }
-}
-
-/// Whether there are so many items, and each is copied.
-fn items_are_copied(alloc: Global, items: &[Tree], count: usize) -> Option<bool> {
-    for item in items {
-        if !is_copied_alone(alloc, item)? {
-            return Some(false);
+/// The same of the list. Of the first five items the copies allocate nothing.
+fn is_copied_with_items(alloc: Global, tree: &Tree) -> Option<bool> {
+    let items = tree.as_list().unwrap_or(&[]);
+    for (number, item) in items.iter().enumerate() {
+        match is_copied(alloc, item) {
+            Some(true) => {}
+            None if number >= 5 => return None,
+            _ => return Some(false),
         }
     }
-    Some(items.len() == count)
+    if items.len() == EACH_KIND.len() && is_copied(alloc, tree)? {
+        is_displayed(alloc, tree, SHOWN)
+    } else {
+        Some(false)
+    }
 }
 
 /// Whether a raw text is kept in memory of its own; or memory runs out, and it comes back as it was.
 fn is_owned(alloc: Global, text: &str) -> Option<bool> {
     match RawJson::new(text).into_owned(alloc) {
         Ok(owned) => keeps(alloc, owned, text),
-        Err(lent) => {
-            if lent.as_str() == text {
-                None
-            } else {
-                Some(false)
-            }
-        }
+        Err(lent) if lent.as_str() == text => None,
+        Err(_) => Some(false),
     }
 }
 
@@ -81,180 +65,73 @@ fn keeps(alloc: Global, owned: RawJson<'static>, text: &str) -> Option<bool> {
 
 static RAW_TEXTS: [&str; 3] = ["[1, {}]", "x", ""];
 
-/// The numbers of `[[1,2,3,4,5],[6,7],[],[8]]`.
-static LISTS: [&[u64]; 4] = [&[1, 2, 3, 4, 5], &[6, 7], &[], &[8]];
-
-/// A list of them.
-fn lists(alloc: Global) -> Result<Tree, AllocError> {
-    let mut items = Vec::new(alloc);
-    for list in &LISTS {
-        items.push(numbers(alloc, *list)?)?;
-    }
-    Ok(Tree::from(items))
-}
-
-/// A list of numbers.
-fn numbers(alloc: Global, numbers: &[u64]) -> Result<Tree, AllocError> {
-    let mut items = Vec::new(alloc);
-    for number in numbers {
-        items.push(Tree::U64(*number))?;
-    }
-    Ok(Tree::from(items))
-}
-
-/// `["a\n",1.5,18446744073709551616]`
-fn texts(alloc: Global) -> Result<Tree, AllocError> {
-    let mut items = Vec::new(alloc);
-    push_texts(alloc, &mut items)?;
-    Ok(Tree::from(items))
-}
-
-/// The items of that list.
-fn push_texts(alloc: Global, items: &mut Vec<Tree>) -> Result<(), AllocError> {
-    push_text(alloc, items, "a\n")?;
-    if let Some(decimal) = Decimal::new("1.5") {
-        items.push(Tree::from(OwnedDecimal::new(alloc, &decimal)?))?;
-    }
-    push_text(alloc, items, "18446744073709551616")
-}
-
-/// A text.
-fn push_text(alloc: Global, items: &mut Vec<Tree>, text: &str) -> Result<(), AllocError> {
-    items.push(Tree::from(String::from_str(alloc, text)?))?;
-    Ok(())
-}
-
-/// A value that is read.
-#[derive(Clone, Copy)]
-enum Wanted {
-    Object,
-    Lists,
-    Texts,
-}
-
-/// The value, made by hand.
-fn made(alloc: Global, wanted: Wanted) -> Result<Tree, AllocError> {
-    match wanted {
-        Wanted::Object => object(alloc),
-        Wanted::Lists => lists(alloc),
-        Wanted::Texts => texts(alloc),
-    }
-}
-
-/// An input, the value that it is read as, and the last token before each event for which the parser may want memory.
-type Row = (&'static str, Wanted, &'static [(usize, usize)]);
+/// An input, how the value is shown that it is read as, and the last token before each event for which the parser may want memory.
+type Row = (&'static str, &'static str, &'static [(usize, usize)]);
 
 static ROWS: [Row; 3] = [
     (
         "{\"a\":1,\"b\":[true,null,[]],\"a\":3}",
-        Wanted::Object,
+        "Pairs([(\"a\", U64(1)), (\"b\", List([Bool(true), Null, List([])])), (\"a\", U64(3))])",
         &[(0, 0), (10, 1), (17, 4)],
     ),
     (
         "[[1,2,3,4,5],[6,7],[],[8]]",
-        Wanted::Lists,
+        "List([List([U64(1), U64(2), U64(3), U64(4), U64(5)]), List([U64(6), U64(7)]), List([]), List([U64(8)])])",
         &[(0, 0), (0, 1), (11, 1), (17, 1), (20, 1)],
     ),
     (
         "[\"a\\n\",1.5,18446744073709551616]",
-        Wanted::Texts,
+        "List([Text(\"a\\n\"), Decimal(OwnedDecimal(\"1.5\")), Text(\"18446744073709551616\")])",
         &[(0, 0), (0, 1), (7, 3)],
     ),
 ];
 
-/// Whether the value was read; or memory ran out, of the parser after one of these tokens, or of the tree.
-fn is_read(
-    answer: Result<Tree, DeserializeError<'_>>,
-    tree: &Tree,
-    wants: &[(usize, usize)],
-) -> Option<bool> {
-    match answer {
-        Ok(read) => Some(read.is_same(tree)),
-        Err(error) => {
-            let place = match error.span {
-                Some(span) => wants.contains(&(span.offset, span.len)),
-                None => true,
-            };
-            if place && error.kind == DeserializeErrorKind::OutOfMemory {
-                None
-            } else {
-                Some(false)
-            }
-        }
-    }
-}
-
-/// A way to read a tree.
-#[derive(Clone, Copy)]
-enum Entry {
-    /// `tree_from_slice`
-    Plain,
-    /// `tree_from_slice_jsonc`
-    Jsonc,
-    /// `tree_from_slice_strict`
-    Strict,
-    /// `tree_from_slice_within`
-    Within,
-    /// `tree_from_slice_within_jsonc`
-    WithinJsonc,
-    /// `tree_from_slice_within_strict`
-    WithinStrict,
-    /// `read_tree`, by a parser
-    Parser,
-}
-
+/// Ways to read a tree.
 static ENTRIES: [Entry; 7] = [
     Entry::Plain,
     Entry::Jsonc,
     Entry::Strict,
-    Entry::Within,
-    Entry::WithinJsonc,
-    Entry::WithinStrict,
+    Entry::Within(3),
+    Entry::WithinJsonc(3),
+    Entry::WithinStrict(3),
     Entry::Parser,
 ];
 
-/// Whether the entry reads the row's value, which is made before.
-fn reads(alloc: Global, entry: Entry, row: &Row) -> Option<bool> {
-    let (text, wanted, wants) = row;
-    let Ok(tree) = made(alloc, *wanted) else {
-        return None;
-    };
-    let input = text.as_bytes();
-    let answer = match entry {
-        Entry::Plain => tree_from_slice(alloc, input),
-        Entry::Jsonc => tree_from_slice_jsonc(alloc, input),
-        Entry::Strict => tree_from_slice_strict(alloc, input),
-        Entry::Within => tree_from_slice_within(alloc, input, 3),
-        Entry::WithinJsonc => tree_from_slice_within_jsonc(alloc, input, 3),
-        Entry::WithinStrict => tree_from_slice_within_strict(alloc, input, 3),
-        Entry::Parser => read_tree(alloc, &mut JsonParser::new(alloc, input)),
-    };
-    is_read(answer, &tree, *wants)
+/// Whether the entry reads the row's value; or memory runs out, of the parser after one of the row's tokens, or of the tree, or of the
+/// text that shows it.
+fn reads(alloc: Global, entry: &Entry, row: &Row) -> Option<bool> {
+    match read_by(alloc, entry, row.0.as_bytes()) {
+        Ok(tree) => shows(alloc, &tree, row.1),
+        Err(error) => has_run_out(&error, row.2),
+    }
 }
 
-/// Whether the entry does, but for one time at most in which memory ran out.
-fn is_read_but_once(alloc: Global, entry: Entry, row: &Row) -> bool {
-    but_once(reads(alloc, entry, row), reads(alloc, entry, row))
+/// None where memory ran out, of the parser after one of these tokens, or of the tree; else the error is wrong.
+fn has_run_out(error: &DeserializeError<'_>, wants: &[(usize, usize)]) -> Option<bool> {
+    let is_place = match error.span {
+        Some(span) => wants.contains(&(span.offset, span.len)),
+        None => true,
+    };
+    if is_place && error.kind == DeserializeErrorKind::OutOfMemory {
+        None
+    } else {
+        Some(false)
+    }
 }
 
 #[test]
-fn a_growth_is_refused_in_a_tree(rt: HostRuntime) {
+fn a_growth_is_refused_in_a_tree_and_a_copy(rt: HostRuntime) {
     let alloc = rt.alloc();
     for row in &ROWS {
         for entry in &ENTRIES {
-            assert!(rt; is_read_but_once(alloc, *entry, row), "{}", row.0);
+            let first = reads(alloc, entry, row);
+            assert!(rt; but_once(first, reads(alloc, entry, row)), "{}", row.0);
         }
     }
-}
-
-#[test]
-fn a_growth_is_refused_in_a_copy(rt: HostRuntime) {
-    let alloc = rt.alloc();
-    assert!(rt; but_once(are_copied(alloc, 11), are_copied(alloc, 11)));
     for &text in &RAW_TEXTS {
-        assert!(rt;
-            but_once(is_owned(alloc, text), is_owned(alloc, text)),
-            "{text}"
-        );
+        let first = is_owned(alloc, text);
+        assert!(rt; but_once(first, is_owned(alloc, text)), "{text}");
     }
+    assert!(rt; is_copied(alloc, &Tree::Null) == Some(true));
+    assert!(rt; but_once(are_copied(alloc), are_copied(alloc)));
 }

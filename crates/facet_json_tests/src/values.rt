@@ -120,11 +120,11 @@ static PARSER_REFUSALS: [Row<ParseError<'static>>; 1] = [(
     "ParseError { span: Span { offset: 2, len: 1 }, kind: SaveLimit }",
 )];
 
-/// Whether the value is shown so.
-pub fn shows<T: Debug>(alloc: Global, value: &T, shown: &str) -> bool {
+/// Whether the value is shown so, or memory runs out.
+pub fn shows<T: Debug>(alloc: Global, value: &T, shown: &str) -> Option<bool> {
     match format!(in alloc; "{value:?}") {
-        Ok(text) => text.as_str() == shown,
-        Err(_) => false,
+        Ok(text) => Some(text.as_str() == shown),
+        Err(_) => None,
     }
 }
 
@@ -136,44 +136,25 @@ fn is_copied<T: Clone + PartialEq + Drop>(value: &T, other: &T) -> bool {
     }
 }
 
-/// The row whose value isn't copied, compared or shown as it should be.
-fn first_wrong<T: Clone + PartialEq + Debug + Drop>(
-    alloc: Global,
-    rows: &[Row<T>],
-) -> Option<&'static str> {
+/// Fails where a value isn't copied, compared or shown as its row says.
+fn expect<T: Clone + PartialEq + Debug + Drop>(rt: &impl Abort, alloc: Global, rows: &[Row<T>]) {
     for (value, other, shown) in rows {
-        if !(is_copied(value, other) && shows(alloc, value, *shown)) {
-            return Some(*shown);
-        }
+        assert!(rt; is_copied(value, other), "{shown}");
+        assert!(rt; shows(alloc, value, *shown) == Some(true), "{shown}");
     }
-    None
-}
-
-/// Fails with the row, where there is one.
-fn expect_none(rt: &impl Abort, wrong: Option<&'static str>) {
-    assert!(rt; wrong.is_none(), "{}", wrong.unwrap_or(""));
 }
 
 #[test]
-fn values_are_copied_compared_and_shown(rt: HostRuntime) {
+fn values_are_copied_compared_shown_and_converted(rt: HostRuntime) {
     let alloc = rt.alloc();
-    expect_none(&rt, first_wrong(alloc, &SPANS));
-    expect_none(&rt, first_wrong(alloc, &SAVE_POINTS));
-    expect_none(&rt, first_wrong(alloc, &HINTS));
-    expect_none(&rt, first_wrong(alloc, &KINDS));
-    expect_none(&rt, first_wrong(alloc, &REFUSALS));
-    expect_none(&rt, first_wrong(alloc, &PARSER_REFUSALS));
-}
-
-/// Whether a refusal of a parser is made and passed on whole, and out of memory has no place.
-fn are_converted() -> bool {
+    expect(&rt, alloc, &SPANS);
+    expect(&rt, alloc, &SAVE_POINTS);
+    expect(&rt, alloc, &HINTS);
+    expect(&rt, alloc, &KINDS);
+    expect(&rt, alloc, &REFUSALS);
+    expect(&rt, alloc, &PARSER_REFUSALS);
     let here = ParseError::new(Span::new(2, 1), DeserializeErrorKind::SaveLimit);
-    here == PARSER_HERE
-        && DeserializeError::from(here) == PASSED
-        && DeserializeError::out_of_memory() == NOWHERE
-}
-
-#[test]
-fn constructors_and_conversions(rt: HostRuntime) {
-    assert!(rt; are_converted());
+    assert!(rt; here == PARSER_HERE);
+    assert!(rt; DeserializeError::from(here) == PASSED);
+    assert!(rt; DeserializeError::out_of_memory() == NOWHERE);
 }

@@ -2,132 +2,91 @@
 //! of their requests for memory, which is refused, and they have to pass in every such run. Each row is tried twice, its set-up too: as
 //! one request is refused in a run, memory runs out in one of the two at most, and the other gives the whole answer.
 
+use crate::contents::Sample;
+use crate::samples::list_of;
 use crate::trees::list_of_trees;
 use crate::twice::but_once;
-use crate::writers::{FORMS, Form, is_after, sample, string_by, text_by, vec_by, write_by};
-use crate::written::{Call, Layout, make, options};
-use facet_json_serializer::{JsonSerializeError, JsonSerializer};
+use crate::writers::{FORMS, Form, SAMPLE, tabs_and_hex, text_by, write_by};
+use crate::written::{Call, Layout, Row, is_after, is_text, writes};
+use facet_json::{
+    to_string, to_string_pretty, to_string_with_options, to_vec, to_vec_pretty, to_vec_with_options,
+};
+use facet_json_serializer::JsonSerializeError;
 use facet_json_tree::{Tree, WriteError};
-use std::alloc::Global;
+use std::alloc::{AllocError, Global};
 use std::io::ErrorKind;
 
-/// Calls, each with the number of its refusal or 0, and the text that they write.
-struct Row {
-    layout: Layout,
-    calls: &'static [(Call<'static>, u8)],
-    text: &'static str,
-}
-
-/// The number of a refusal, or 0.
-fn number_of(answer: Result<(), JsonSerializeError>) -> u8 {
-    match answer {
-        Ok(()) => 0,
-        Err(refusal) => refusal.code(),
-    }
-}
-
-/// Makes the calls, whose answers have to be theirs up to one that runs out of memory: that one and each later one have to tell so.
-/// Whether they are, and whether memory ran out.
-fn are_answered(serializer: &mut JsonSerializer<'_>, padding: &str, row: &Row) -> (bool, bool) {
-    let mut has_run_out = number_of(make(serializer, Call::Raw(padding))) == 4;
-    for (call, wanted) in row.calls {
-        let number = number_of(make(serializer, *call));
-        if number == 4 {
-            has_run_out = true;
-        } else if has_run_out || number != *wanted {
-            return (false, has_run_out);
-        }
-    }
-    (true, has_run_out)
-}
-
-/// Whether the calls write the row's text after a padding that is written as it stands. Or memory runs out, and then no text is given.
-fn writes(alloc: Global, padding: &str, row: &Row) -> Option<bool> {
-    let mut serializer = JsonSerializer::with_options(alloc, options(row.layout));
-    let (is_right, has_run_out) = are_answered(&mut serializer, padding, row);
-    match serializer.finish() {
-        Ok(written) => {
-            let whole = is_after(written.as_slice(), padding.as_bytes(), row.text);
-            Some(is_right && whole && !has_run_out)
-        }
-        Err(JsonSerializeError::OutOfMemory) if is_right && has_run_out => None,
-        Err(_) => Some(false),
-    }
-}
-
 static ROWS: [Row; 6] = [
-    Row {
-        layout: Layout::Compact,
-        calls: &[
-            (Call::BeginStruct, 0),
-            (Call::Key("a"), 0),
-            (Call::BeginSeq, 0),
-            (Call::BeginSeq, 0),
-            (Call::Number(18446744073709551615), 0),
-            (
-                Call::Text("a text that is longer\nthan the first growth"),
-                0,
-            ),
-            (Call::EndSeq, 0),
-            (Call::Raw("[true, false, null]"), 0),
-            (Call::Bytes(&[1, 2, 3]), 0),
-            (Call::EndSeq, 0),
-            (Call::EndStruct, 0),
+    (
+        Layout::Compact,
+        &[
+            Call::BeginStruct,
+            Call::Key("a"),
+            Call::BeginSeq,
+            Call::BeginSeq,
+            Call::Number(18446744073709551615),
+            Call::Text("a text that is longer\nthan the first growth"),
+            Call::EndSeq,
+            Call::Raw("[true, false, null]"),
+            Call::Bytes(&[1, 2, 3]),
+            Call::EndSeq,
+            Call::EndStruct,
         ],
-        text: "{\"a\":[[18446744073709551615,\"a text that is longer\\nthan the first growth\"],[true, false, null],[1,2,3]]}",
-    },
-    Row {
-        layout: Layout::Compact,
-        calls: &[
-            (Call::BeginStruct, 0),
-            (Call::EndSeq, 3),
-            (Call::Key("a\n"), 0),
-            (Call::BeginStruct, 0),
-            (Call::EndStruct, 0),
-            (Call::Key("b"), 0),
-            (Call::Number(1234567890), 0),
-            (Call::EndStruct, 0),
-            (Call::EndStruct, 2),
+        &[],
+        "{\"a\":[[18446744073709551615,\"a text that is longer\\nthan the first growth\"],[true, false, null],[1,2,3]]}",
+    ),
+    (
+        Layout::Compact,
+        &[
+            Call::BeginStruct,
+            Call::EndSeq,
+            Call::Key("a\n"),
+            Call::BeginStruct,
+            Call::EndStruct,
+            Call::Key("b"),
+            Call::Number(1234567890),
+            Call::EndStruct,
+            Call::EndStruct,
         ],
-        text: "{\"a\\n\":{},\"b\":1234567890}",
-    },
-    Row {
-        layout: Layout::Compact,
-        calls: &[
-            (Call::BeginSeq, 0),
-            (Call::Text("a\"\u{1}"), 0),
-            (Call::BeginSeq, 0),
-            (Call::Key("a"), 1),
-            (Call::EndSeq, 0),
-            (Call::Bytes(&[1, 22]), 0),
-            (Call::Array(&[255]), 0),
-            (Call::Raw("[2]"), 0),
-            (Call::EndSeq, 0),
+        &[0, 3, 0, 0, 0, 0, 0, 0, 2],
+        "{\"a\\n\":{},\"b\":1234567890}",
+    ),
+    (
+        Layout::Compact,
+        &[
+            Call::BeginSeq,
+            Call::Text("a\"\u{1}"),
+            Call::BeginSeq,
+            Call::Key("a"),
+            Call::EndSeq,
+            Call::Bytes(&[1, 22]),
+            Call::Array(&[255]),
+            Call::Raw("[2]"),
+            Call::EndSeq,
         ],
-        text: "[\"a\\\"\\u0001\",[],[1,22],[255],[2]]",
-    },
-    Row {
-        layout: Layout::Pretty,
-        calls: &[
-            (Call::BeginSeq, 0),
-            (Call::BeginStruct, 0),
-            (Call::Key("a"), 0),
-            (Call::Number(1), 0),
-            (Call::EndStruct, 0),
-            (Call::EndSeq, 0),
+        &[0, 0, 0, 1],
+        "[\"a\\\"\\u0001\",[],[1,22],[255],[2]]",
+    ),
+    (
+        Layout::Pretty,
+        &[
+            Call::BeginSeq,
+            Call::BeginStruct,
+            Call::Key("a"),
+            Call::Number(1),
+            Call::EndStruct,
+            Call::EndSeq,
         ],
-        text: "[\n  {\n    \"a\": 1\n  }\n]",
-    },
-    Row {
-        layout: Layout::ShortHex(3, 2, 1),
-        calls: &[(Call::Bytes(&[0, 1, 2, 255]), 0)],
-        text: "\"0x0001..<1 bytes>..ff\"",
-    },
-    Row {
-        layout: Layout::ShortHex(3, 2, 1),
-        calls: &[],
-        text: "",
-    },
+        &[],
+        "[\n  {\n    \"a\": 1\n  }\n]",
+    ),
+    (
+        Layout::ShortHex(3, 2, 1),
+        &[Call::Bytes(&[0, 1, 2, 255])],
+        &[],
+        "\"0x0001..<1 bytes>..ff\"",
+    ),
+    (Layout::ShortHex(3, 2, 1), &[], &[], ""),
 ];
 
 /// Whether each of some paddings is written so before the row's text. What is written grows where it passes 8 bytes, or the padding's
@@ -136,7 +95,7 @@ static ROWS: [Row; 6] = [
 fn are_written(alloc: Global, row: &Row) -> bool {
     let padding = "0123456789abcdefghijklmn";
     for n in 0..=padding.len() {
-        let part = padding.get(..n).unwrap_or("no part");
+        let part = Some(padding.get(..n).unwrap_or("no part"));
         if !but_once(writes(alloc, part, row), writes(alloc, part, row)) {
             return false;
         }
@@ -147,42 +106,70 @@ fn are_written(alloc: Global, row: &Row) -> bool {
 #[test]
 fn a_refused_growth_sticks(rt: HostRuntime) {
     for row in &ROWS {
-        assert!(rt; are_written(rt.alloc(), row), "{}", row.text);
+        assert!(rt; are_written(rt.alloc(), row), "{}", row.3);
     }
 }
 
-/// Whether this was written, or memory ran out.
-fn is_text(answer: Result<Vec<u8>, JsonSerializeError>, text: &str) -> Option<bool> {
+/// How a tree's text is given.
+enum Way {
+    /// As bytes.
+    Bytes,
+    /// As a text.
+    Text,
+    /// To a writer that asks for no memory.
+    Room,
+    /// After these bytes of a vector.
+    Vector(&'static [u8]),
+}
+
+static WAYS: [Way; 5] = [
+    Way::Bytes,
+    Way::Text,
+    Way::Room,
+    Way::Vector(b""),
+    Way::Vector(b"before "),
+];
+
+/// Whether the sample is given so, or memory runs out.
+fn gives(alloc: Global, form: Form, way: &Way) -> Option<bool> {
+    match list_of(alloc, &SAMPLE) {
+        Some(tree) => gives_tree(alloc, form, &tree, way),
+        None => None,
+    }
+}
+
+/// The same of its tree.
+fn gives_tree(alloc: Global, form: Form, tree: &Tree, way: &Way) -> Option<bool> {
+    match way {
+        Way::Bytes => is_text(&vec_by(form, alloc, tree), text_by(form)),
+        Way::Text => is_string(&string_by(form, alloc, tree), text_by(form)),
+        Way::Room => fills_room(alloc, form, tree),
+        Way::Vector(before) => fills_vector(alloc, form, tree, *before),
+    }
+}
+
+/// The text of the tree as bytes, by the function that gives what this one writes.
+fn vec_by(form: Form, alloc: Global, tree: &Tree) -> Result<Vec<u8>, JsonSerializeError> {
+    match form {
+        Form::Compact => to_vec(alloc, tree),
+        Form::Pretty => to_vec_pretty(alloc, tree),
+        Form::WithOptions => to_vec_with_options(alloc, tree, &tabs_and_hex()),
+    }
+}
+
+/// The same as a text.
+fn string_by(form: Form, alloc: Global, tree: &Tree) -> Result<String, JsonSerializeError> {
+    match form {
+        Form::Compact => to_string(alloc, tree),
+        Form::Pretty => to_string_pretty(alloc, tree),
+        Form::WithOptions => to_string_with_options(alloc, tree, &tabs_and_hex()),
+    }
+}
+
+/// Whether this text was written, or memory ran out.
+fn is_string(answer: &Result<String, JsonSerializeError>, text: &str) -> Option<bool> {
     match answer {
-        Ok(written) => Some(written.as_slice() == text.as_bytes()),
-        Err(JsonSerializeError::OutOfMemory) => None,
-        Err(_) => Some(false),
-    }
-}
-
-#[test]
-fn a_growth_is_refused_among_trees(rt: HostRuntime) {
-    let alloc = rt.alloc();
-    let text = "[[1,null],true]";
-    let first = is_text(list_of_trees(alloc), text);
-    assert!(rt; but_once(first, is_text(list_of_trees(alloc), text)));
-}
-
-/// Whether the sample is given as bytes.
-fn gives_vec(alloc: Global, form: Form) -> Option<bool> {
-    match sample(alloc) {
-        Ok(tree) => is_text(vec_by(form, alloc, &tree), text_by(form)),
-        Err(_) => None,
-    }
-}
-
-/// Whether it is given as a text.
-fn gives_string(alloc: Global, form: Form) -> Option<bool> {
-    let Ok(tree) = sample(alloc) else {
-        return None;
-    };
-    match string_by(form, alloc, &tree) {
-        Ok(written) => Some(written.as_str() == text_by(form)),
+        Ok(written) => Some(written.as_str() == text),
         Err(JsonSerializeError::OutOfMemory) => None,
         Err(_) => Some(false),
     }
@@ -203,39 +190,42 @@ fn is_filled(room: &[u8], text: &str) -> bool {
     room.starts_with(text.as_bytes())
 }
 
-/// Whether the sample is written to a writer that asks for no memory; or memory runs out, and nothing is written.
-fn fills_room(alloc: Global, form: Form) -> Option<bool> {
-    let Ok(tree) = sample(alloc) else {
-        return None;
-    };
+/// Whether the tree is written to a writer that asks for no memory; or memory runs out, and nothing is written.
+fn fills_room(alloc: Global, form: Form, tree: &Tree) -> Option<bool> {
     let mut room = [0; 32];
     let mut left = room.as_mut_slice();
-    match write_by(form, alloc, &mut left, &tree) {
+    match write_by(form, alloc, &mut left, tree) {
         Ok(()) => Some(is_filled(&room, text_by(form))),
         Err(WriteError::Memory) => lacks(is_filled(&room, "")),
         Err(WriteError::Io(_)) => Some(false),
     }
 }
 
-/// Whether the sample is written to a vector; or memory runs out, of the text, and then nothing is written, or of the vector.
-fn fills_vector(alloc: Global, form: Form) -> Option<bool> {
-    let Ok(tree) = sample(alloc) else {
-        return None;
-    };
-    let mut out = Vec::new(alloc);
-    match write_by(form, alloc, &mut out, &tree) {
-        Ok(()) => Some(out.as_slice() == text_by(form).as_bytes()),
-        Err(WriteError::Memory) => lacks(out.is_empty()),
-        Err(WriteError::Io(error)) => lacks(error.kind() == ErrorKind::OutOfMemory),
+/// Whether the tree is written after what a vector holds; or memory runs out, of the text, and then nothing is written, or of the vector.
+fn fills_vector(alloc: Global, form: Form, tree: &Tree, before: &[u8]) -> Option<bool> {
+    match Vec::from_slice(alloc, before) {
+        Ok(mut out) => is_appended(
+            &write_by(form, alloc, &mut out, tree),
+            &out,
+            before,
+            text_by(form),
+        ),
+        Err(AllocError) => None,
     }
 }
 
-/// Whether the sample is given in each way, but for one time at most in which memory ran out.
-fn is_given(alloc: Global, form: Form) -> bool {
-    but_once(gives_vec(alloc, form), gives_vec(alloc, form))
-        && but_once(gives_string(alloc, form), gives_string(alloc, form))
-        && but_once(fills_room(alloc, form), fills_room(alloc, form))
-        && but_once(fills_vector(alloc, form), fills_vector(alloc, form))
+/// The same of the answer, and of the vector's bytes.
+fn is_appended(
+    answer: &Result<(), WriteError>,
+    bytes: &[u8],
+    before: &[u8],
+    text: &str,
+) -> Option<bool> {
+    match answer {
+        Ok(()) => Some(is_after(bytes, before, text)),
+        Err(WriteError::Memory) => lacks(bytes == before),
+        Err(WriteError::Io(error)) => lacks(error.kind() == ErrorKind::OutOfMemory),
+    }
 }
 
 /// One byte, by a function whose error is a `WriteError`.
@@ -253,11 +243,30 @@ fn gives_byte(alloc: Global) -> Option<bool> {
     }
 }
 
+/// A list in a list.
+static PAIR: [Sample; 2] = [Sample::U64(1), Sample::Null];
+
+/// Whether a list of trees, each written where a value stands, is given.
+fn gives_list(alloc: Global) -> Option<bool> {
+    match list_of(alloc, &PAIR) {
+        Some(tree) => is_text(&list_of_trees(alloc, &tree), "[[1,null],true]"),
+        None => None,
+    }
+}
+
 #[test]
 fn a_growth_is_refused_in_each_form(rt: HostRuntime) {
     let alloc = rt.alloc();
     for form in FORMS {
-        assert!(rt; is_given(alloc, form), "{}", text_by(form));
+        for way in &WAYS {
+            let first = gives(alloc, form, way);
+            assert!(rt;
+                but_once(first, gives(alloc, form, way)),
+                "{}",
+                text_by(form)
+            );
+        }
     }
     assert!(rt; but_once(gives_byte(alloc), gives_byte(alloc)));
+    assert!(rt; but_once(gives_list(alloc), gives_list(alloc)));
 }

@@ -9,7 +9,6 @@ use std::borrow::CowStr;
 use std::process::Abort;
 
 /// How the text is laid out.
-#[derive(Clone, Copy)]
 pub enum Layout {
     /// Nothing between tokens.
     Compact,
@@ -28,7 +27,7 @@ pub enum Layout {
 }
 
 /// The options of a layout.
-pub fn options(layout: Layout) -> SerializeOptions<'static> {
+pub fn options(layout: &Layout) -> SerializeOptions<'static> {
     let options = SerializeOptions::new();
     match layout {
         Layout::Compact => options,
@@ -37,13 +36,15 @@ pub fn options(layout: Layout) -> SerializeOptions<'static> {
         Layout::Lists => options.bytes_as_array(),
         Layout::Hex => options.bytes_as_hex(),
         Layout::ShortHex(above, head, tail) => options.bytes_as_hex_with_options(
-            HexBytesOptions::new().truncate(above).head_tail(head, tail),
+            HexBytesOptions::new()
+                .truncate(*above)
+                .head_tail(*head, *tail),
         ),
-        Layout::Format(format) => options.bytes_format(format),
+        Layout::Format(format) => options.bytes_format(*format),
     }
 }
 
-/// How calls are written, the calls, the numbers of the refusals among their answers, and the text.
+/// How calls are written, the calls, the number of each one's refusal or 0, with none for the last ones that are taken, and the text.
 pub type Row = (
     Layout,
     &'static [Call<'static>],
@@ -52,7 +53,7 @@ pub type Row = (
 );
 
 /// A call.
-#[derive(Clone, Copy)]
+#[derive(Drop)]
 pub enum Call<'a> {
     /// `begin_struct`
     BeginStruct,
@@ -115,61 +116,106 @@ pub fn value_of(scalar: Scalar<'_>) -> ScalarValue<'_> {
     }
 }
 
-/// Makes a call.
-pub fn make(serializer: &mut JsonSerializer<'_>, call: Call<'_>) -> Result<(), JsonSerializeError> {
-    match call {
-        Call::BeginStruct => serializer.begin_struct(),
-        Call::Key(key) => serializer.field_key(key),
-        Call::EndStruct => serializer.end_struct(),
-        Call::BeginSeq => serializer.begin_seq(),
-        Call::EndSeq => serializer.end_seq(),
-        Call::Number(number) => serializer.scalar(value_of(Scalar::U64(number))),
-        Call::Text(text) => serializer.scalar(value_of(Scalar::Text(text))),
-        Call::Scalar(scalar) => serializer.scalar(value_of(scalar)),
-        Call::Raw(json) => serializer.raw_scalar(json),
-        Call::Bytes(bytes) => match serializer.serialize_byte_sequence(bytes) {
-            Ok(_) => Ok(()),
-            Err(refused) => Err(refused),
-        },
-        Call::Array(bytes) => match serializer.serialize_byte_array(bytes) {
-            Ok(_) => Ok(()),
-            Err(refused) => Err(refused),
-        },
+/// The number of a refusal, or 0.
+fn number_of<T>(answer: &Result<T, JsonSerializeError>) -> u8 {
+    match answer {
+        Ok(_) => 0,
+        Err(refusal) => refusal.code(),
     }
 }
 
-/// Whether the calls write this text, and those that are refused are refused with these numbers.
-fn writes(alloc: Global, row: &Row) -> bool {
-    let &(layout, calls, refusals, text) = row;
-    let mut serializer = JsonSerializer::with_options(alloc, options(layout));
-    are_refused(&mut serializer, calls, refusals) && is_text(serializer.finish(), text)
+/// Makes a call. The number of its refusal, or 0.
+fn make(serializer: &mut JsonSerializer<'_>, call: &Call<'_>) -> u8 {
+    match call {
+        Call::BeginStruct => number_of(&serializer.begin_struct()),
+        Call::Key(key) => number_of(&serializer.field_key(*key)),
+        Call::EndStruct => number_of(&serializer.end_struct()),
+        Call::BeginSeq => number_of(&serializer.begin_seq()),
+        Call::EndSeq => number_of(&serializer.end_seq()),
+        Call::Number(number) => number_of(&serializer.scalar(value_of(Scalar::U64(*number)))),
+        Call::Text(text) => number_of(&serializer.scalar(value_of(Scalar::Text(*text)))),
+        Call::Scalar(scalar) => number_of(&serializer.scalar(value_of(*scalar))),
+        Call::Raw(json) => number_of(&serializer.raw_scalar(*json)),
+        Call::Bytes(bytes) => number_of(&serializer.serialize_byte_sequence(*bytes)),
+        Call::Array(bytes) => number_of(&serializer.serialize_byte_array(*bytes)),
+    }
 }
 
-/// Whether those of the calls that are refused are refused with these numbers.
-fn are_refused(serializer: &mut JsonSerializer<'_>, calls: &[Call<'_>], refusals: &[u8]) -> bool {
-    let mut refused = 0;
-    for call in calls {
-        if let Err(refusal) = make(serializer, *call) {
-            if refused >= refusals.len() || refusals[refused] != refusal.code() {
-                return false;
-            }
-            refused += 1;
+/// The number of the refusal where memory runs out.
+const OUT_OF_MEMORY: u8 = 4;
+
+/// Makes the calls of the row, of which each has to be answered as the row says, up to one that runs out of memory, which may have been
+/// before: that one and each later one have to tell so, and the answer is none.
+fn are_answered(
+    serializer: &mut JsonSerializer<'_>,
+    row: &Row,
+    ran_out_before: bool,
+) -> Option<bool> {
+    let mut has_run_out = ran_out_before;
+    for (at, call) in row.1.iter().enumerate() {
+        let number = make(serializer, call);
+        if number == OUT_OF_MEMORY {
+            has_run_out = true;
+        } else if has_run_out || number != *row.2.get(at).unwrap_or(&0) {
+            return Some(false);
         }
     }
-    refused == refusals.len()
+    if has_run_out { None } else { Some(true) }
 }
 
-/// Whether this was written.
-pub fn is_text(answer: Result<Vec<u8>, JsonSerializeError>, text: &str) -> bool {
+/// Writes the padding, where there is one, as it stands. Whether memory ran out.
+fn is_refused(serializer: &mut JsonSerializer<'_>, padding: Option<&str>) -> bool {
+    match padding {
+        Some(json) => make(serializer, &Call::Raw(json)) == OUT_OF_MEMORY,
+        None => false,
+    }
+}
+
+/// Whether the calls write the row's text after the padding, and those that are refused are refused as the row says. Or memory runs out,
+/// and then no text is given.
+pub fn writes(alloc: Global, padding: Option<&str>, row: &Row) -> Option<bool> {
+    let mut serializer = JsonSerializer::with_options(alloc, options(&row.0));
+    let ran_out = is_refused(&mut serializer, padding);
+    let answered = are_answered(&mut serializer, row, ran_out);
+    is_finished(&serializer.finish(), answered, padding.unwrap_or(""), row.3)
+}
+
+/// Whether the text was written after the padding, as the calls were answered so; or memory ran out in them.
+fn is_finished(
+    written: &Result<Vec<u8>, JsonSerializeError>,
+    answered: Option<bool>,
+    padding: &str,
+    text: &str,
+) -> Option<bool> {
+    match (written, answered) {
+        (Ok(bytes), Some(is_right)) => {
+            Some(is_right && is_after(bytes.as_slice(), padding.as_bytes(), text))
+        }
+        (Err(JsonSerializeError::OutOfMemory), None) => None,
+        _ => Some(false),
+    }
+}
+
+/// Whether the bytes are these and then the text.
+pub fn is_after(bytes: &[u8], before: &[u8], text: &str) -> bool {
+    match bytes.get(before.len()..) {
+        Some(rest) => bytes.starts_with(before) && rest == text.as_bytes(),
+        None => false,
+    }
+}
+
+/// Whether this was written, or memory ran out.
+pub fn is_text(answer: &Result<Vec<u8>, JsonSerializeError>, text: &str) -> Option<bool> {
     match answer {
-        Ok(written) => written.as_slice() == text.as_bytes(),
-        Err(_) => false,
+        Ok(written) => Some(written.as_slice() == text.as_bytes()),
+        Err(JsonSerializeError::OutOfMemory) => None,
+        Err(_) => Some(false),
     }
 }
 
 /// Fails where calls aren't written and refused as their row says.
 pub fn expect_written(rt: &impl Abort, alloc: Global, rows: &[Row]) {
     for row in rows {
-        assert!(rt; writes(alloc, row), "{}", row.3);
+        assert!(rt; writes(alloc, None, row) == Some(true), "{}", row.3);
     }
 }
