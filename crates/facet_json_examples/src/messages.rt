@@ -3,9 +3,7 @@
 ghost use Rattle.std.specs.Prelude.{◌≤◌, ◌<◌, IfOk, OnSome};
 ghost use Rattle.facet_json.specs.Now.{ahead};
 
-use facet_json::{
-    FormatParser, JsonParser, ParseError, ParseEvent, ParseEventKind, RawJson, ScalarValue,
-};
+use facet_json::{FormatParser, JsonParser, ParseError, ParseEvent, ParseEventKind, ScalarValue};
 use std::alloc::Global;
 use std::borrow::CowStr;
 
@@ -34,17 +32,12 @@ pub fn read_message<'de>(
     alloc: Global,
     input: &'de [u8],
 ) -> Result<Message<'de>, ParseError<'static>> {
-    message_of(&mut JsonParser::new(alloc, input))
-}
-
-/// Reads the message that comes.
-fn message_of<'de>(parser: &mut JsonParser<'de>) -> Result<Message<'de>, ParseError<'static>> {
     let mut message = Message {
         id: None,
         method: None,
         params: None,
     };
-    read_fields(parser, &mut message)?;
+    read_fields(&mut JsonParser::new(alloc, input), &mut message)?;
     Ok(message)
 }
 
@@ -137,13 +130,5 @@ fn text_of(event: ParseEvent<'_>) -> Option<CowStr<'_>> {
     match event.kind {
         ParseEventKind::Scalar(ScalarValue::Str(text)) => Some(text),
         _ => None,
-    }
-}
-
-/// The parameters of a message as a value that is kept or passed on.
-pub fn params<'de>(message: &Message<'de>) -> Option<RawJson<'de>> {
-    match message.params {
-        Some(text) => Some(RawJson::new(text)),
-        None => None,
     }
 }
