@@ -4,7 +4,7 @@ use crate::advice::{Place, advice};
 use crate::arguments::{Layout, Options};
 use crate::check::{Fault, check, formatted, parser_of};
 use crate::files;
-use crate::repeats::{Repeat, repeats};
+use crate::repeats::{Repeat, key_text, repeats};
 use crate::report::{Aside, Colours, Report, write_report};
 use crate::shown::shown;
 use crate::tally::{Tally, Verdict};
@@ -182,16 +182,17 @@ impl Lint<'_> {
         output: &mut W,
     ) -> io::Result<()> {
         let alloc = self.rt.alloc();
-        let key = shown(alloc, repeat.key(source.text))?;
+        let (offset, len, first) = repeat;
+        let key = shown(alloc, key_text(source.text, offset, len))?;
         let report = Report {
             name: source.shown,
             source: source.text,
-            span: Span::new(repeat.offset, repeat.len),
+            span: Span::new(offset, len),
             kind: &JsonErrorKind::DuplicateKey { key },
             advice: "remove one of the two, or rename it",
             aside: Some(Aside {
                 what: "first here",
-                offset: repeat.first,
+                offset: first,
             }),
         };
         write_report(alloc, &report, self.colours, output)
