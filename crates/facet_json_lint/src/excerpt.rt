@@ -50,14 +50,15 @@ impl Excerpt {
 
 /// What stands behind the last line feed.
 fn last_line(text: &[u8]) -> &[u8] {
-    let mut len = 0_usize;
-    for byte in text.iter().rev() {
+    let mut start = 0;
+    let mut passed = 0_usize;
+    for byte in text {
+        passed = passed.saturating_add(1);
         if *byte == b'\n' {
-            break;
+            start = passed;
         }
-        len = len.saturating_add(1);
     }
-    &text[text.len().saturating_sub(len)..]
+    &text[start.min(text.len())..]
 }
 
 /// What stands before the first line feed, and a carriage return before that.
@@ -112,7 +113,7 @@ fn shown_within(
 fn meant_of(line: &[u8], len: usize) -> &[u8] {
     let mut end = len.min(line.len());
     if end > 0 {
-        for byte in line[end..].iter().take(3) {
+        for byte in &line[end..end.saturating_add(3).min(line.len())] {
             if *byte & 0xC0 != 0x80 {
                 break;
             }

@@ -146,7 +146,7 @@ impl Lint<'_> {
         let alloc = self.rt.alloc();
         let mut parser = parser_of(alloc, self.options.language, source.text);
         match repeats(alloc, &mut parser) {
-            Ok(found) => self.tell_repeats(source, found, output),
+            Ok(found) => self.tell_repeats(source, found.as_slice(), output),
             Err(error) => self.tell_error(source, error, output),
         }
     }
@@ -155,7 +155,7 @@ impl Lint<'_> {
     fn tell_repeats<W: Write>(
         self,
         source: Source<'_>,
-        found: Vec<Repeat>,
+        found: &[Repeat],
         output: &mut W,
     ) -> io::Result<Verdict> {
         if found.is_empty() {
@@ -164,7 +164,7 @@ impl Lint<'_> {
         if self.options.is_quiet {
             return Ok(Verdict::Reported);
         }
-        for repeat in found.iter().take(MOST_REPEATS) {
+        for repeat in &found[..found.len().min(MOST_REPEATS)] {
             self.tell_repeat(source, *repeat, output)?;
         }
         if found.len() > MOST_REPEATS {
