@@ -66,7 +66,11 @@ impl<'a> Place<'a> {
 pub fn advice(kind: &DeserializeErrorKind<'_>, place: Place<'_>) -> &'static str {
     match kind {
         DeserializeErrorKind::UnexpectedToken { got, expected } => on_token(got, expected, place),
-        DeserializeErrorKind::UnexpectedEof { expected } => on_end(expected),
+        DeserializeErrorKind::UnexpectedEof { expected } => found(
+            &AT_END,
+            expected,
+            "a value is missing here",
+        ),
         DeserializeErrorKind::UnexpectedChar { ch, .. } => on_character(*ch, place),
         DeserializeErrorKind::InvalidUtf8 => on_bytes(place.meant),
         DeserializeErrorKind::OutOfMemory => "there is not enough memory for this file",
@@ -78,55 +82,89 @@ pub fn advice(kind: &DeserializeErrorKind<'_>, place: Place<'_>) -> &'static str
     }
 }
 
+/// What to do where a key has no value.
+const NO_VALUE: &str = "a colon and a value are missing after the key";
+
+/// What to do where a value has no key.
+const NO_KEY: &str = "a key and a colon are missing before this value";
+
+/// Tokens behind a member, and what to do.
+static AFTER_MEMBER: [(&str, &str); 2] = [
+    ("String", "a comma is missing before this key"),
+    ("ArrayEnd", "a } is missing before this bracket"),
+];
+
+/// Tokens behind an item.
+static AFTER_ITEM: [(&str, &str); 2] = [
+    ("ObjectEnd", "a ] is missing before this bracket"),
+    ("Colon", "a list has no keys: members stand between { and }"),
+];
+
+/// Tokens behind a key's string.
+static AFTER_KEY: [(&str, &str); 4] = [
+    ("Comma", NO_VALUE),
+    ("ObjectEnd", NO_VALUE),
+    ("ArrayEnd", NO_VALUE),
+    ("Eof", NO_VALUE),
+];
+
+/// Tokens where a key may stand.
+static AT_KEY: [(&str, &str); 6] = [
+    ("ObjectEnd", "remove the comma before this bracket"),
+    ("ArrayEnd", "a } is missing before this bracket"),
+    ("Comma", "remove this comma, or write a member before it"),
+    ("Colon", "a key is missing before this colon"),
+    ("ObjectStart", NO_KEY),
+    ("ArrayStart", NO_KEY),
+];
+
+/// What was expected where the input ends.
+static AT_END: [(&str, &str); 10] = [
+    (
+        "in string",
+        "a double quote is missing at the end of this string",
+    ),
+    ("in literal", "the words of JSON are true, false and null"),
+    ("in number", "a digit is missing after the minus"),
+    (
+        "in block comment",
+        "a */ is missing at the end of this comment",
+    ),
+    (
+        "in unicode escape",
+        "four hexadecimal digits stand after \\u",
+    ),
+    ("',' or '}'", "a } is missing here"),
+    ("field name or '}'", "a } is missing here"),
+    ("field name", "a } is missing here"),
+    ("',' or ']'", "a ] is missing here"),
+    ("value or ']'", "a ] is missing here"),
+];
+
+/// What the rows say of a text, or else this.
+fn found(rows: &[(&str, &'static str)], text: &str, or: &'static str) -> &'static str {
+    for row in rows {
+        if row.0 == text {
+            return row.1;
+        }
+    }
+    or
+}
+
 /// Where a token stands with which nothing goes on.
 fn on_token(got: &str, expected: &str, place: Place<'_>) -> &'static str {
     match expected {
-        "',' or '}'" => after_member(got),
-        "',' or ']'" => after_item(got),
-        "':'" => after_key(got),
-        "field name or '}'" | "field name" => at_key(got),
+        "',' or '}'" => found(
+            &AFTER_MEMBER,
+            got,
+            "a comma and a key are missing before this",
+        ),
+        "',' or ']'" => found(&AFTER_ITEM, got, "a comma is missing before this value"),
+        "':'" => found(&AFTER_KEY, got, "a colon is missing before this value"),
+        "field name or '}'" | "field name" => found(&AT_KEY, got, "a key stands in double quotes"),
         "value or ']'" | "value" => at_value(got, place),
         "end of input" => "a file holds one value: remove what follows it",
         _ => "write what is expected here",
-    }
-}
-
-/// Behind a member.
-fn after_member(got: &str) -> &'static str {
-    match got {
-        "String" => "a comma is missing before this key",
-        "ArrayEnd" => "a } is missing before this bracket",
-        _ => "a comma and a key are missing before this",
-    }
-}
-
-/// Behind an item.
-fn after_item(got: &str) -> &'static str {
-    match got {
-        "ObjectEnd" => "a ] is missing before this bracket",
-        "Colon" => "a list has no keys: members stand between { and }",
-        _ => "a comma is missing before this value",
-    }
-}
-
-/// Behind a key's string.
-fn after_key(got: &str) -> &'static str {
-    match got {
-        "Comma" | "ObjectEnd" | "ArrayEnd" | "Eof" =>
-            "a colon and a value are missing after the key",
-        _ => "a colon is missing before this value",
-    }
-}
-
-/// Where a key may stand.
-fn at_key(got: &str) -> &'static str {
-    match got {
-        "ObjectEnd" => "remove the comma before this bracket",
-        "ArrayEnd" => "a } is missing before this bracket",
-        "Comma" => "remove this comma, or write a member before it",
-        "Colon" => "a key is missing before this colon",
-        "ObjectStart" | "ArrayStart" => "a key and a colon are missing before this value",
-        _ => "a key stands in double quotes",
     }
 }
 
@@ -139,20 +177,6 @@ fn at_value(got: &str, place: Place<'_>) -> &'static str {
         _ if place.is_after(b':') => "a value is missing before this bracket",
         _ if place.is_after(b'[') => "a ] is missing before this bracket",
         _ => "this bracket closes nothing: remove it, or write the one that it closes",
-    }
-}
-
-/// At the end of the input.
-fn on_end(expected: &str) -> &'static str {
-    match expected {
-        "in string" => "a double quote is missing at the end of this string",
-        "in literal" => "the words of JSON are true, false and null",
-        "in number" => "a digit is missing after the minus",
-        "in block comment" => "a */ is missing at the end of this comment",
-        "in unicode escape" => "four hexadecimal digits stand after \\u",
-        "',' or '}'" | "field name or '}'" | "field name" => "a } is missing here",
-        "',' or ']'" | "value or ']'" => "a ] is missing here",
-        _ => "a value is missing here",
     }
 }
 

@@ -1,6 +1,6 @@
 //! What the arguments after the program's name ask for.
 
-use std::alloc::{AllocError, AllocFailed, Global};
+use std::alloc::Global;
 use std::fmt;
 
 /// What the program is asked to do.
@@ -73,18 +73,6 @@ impl fmt::Display for Misuse<'_> {
     }
 }
 
-impl From<AllocError> for Misuse<'_> {
-    fn from(_error: AllocError) -> Self {
-        Misuse::Memory
-    }
-}
-
-impl<T: Drop> From<AllocFailed<T>> for Misuse<'_> {
-    fn from(_error: AllocFailed<T>) -> Self {
-        Misuse::Memory
-    }
-}
-
 impl Options {
     /// What is done where no option says otherwise.
     fn new() -> Options {
@@ -148,7 +136,11 @@ pub fn request_of<'a>(alloc: Global, args: &'a [String]) -> Result<Request<'a>, 
     let mut are_files = false;
     for arg in args {
         match arg.as_str() {
-            word if are_files || !is_option(word) => files.push(word)?,
+            word if are_files || !is_option(word) => {
+                if files.push(word).is_err() {
+                    return Err(Misuse::Memory);
+                }
+            }
             "--" => are_files = true,
             "--help" => return Ok(Request::Help),
             "--version" => return Ok(Request::Version),

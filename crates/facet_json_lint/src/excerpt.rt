@@ -34,11 +34,10 @@ impl Excerpt {
         let (before, after) = source.split_at(span.offset.min(source.len()));
         let begun = last_line(before);
         let rest = first_line(after);
+        let marks = columns_of(alloc, meant_of(rest, span.len), Side::Back)?;
         let room = room_before(alloc, begun, rest)?;
         let before = shown_within(alloc, begun, room, Side::Front)?;
         let room = MOST.saturating_sub(columns(before.as_str()));
-        let meant = meant_of(rest, span.len);
-        let marks = marks_of(alloc, meant)?;
         let rest = shown_within(alloc, rest, room, Side::Back)?;
         let marks = marks.min(columns(rest.as_str())).max(1);
         Ok(Excerpt {
@@ -51,26 +50,34 @@ impl Excerpt {
 
 /// What stands behind the last line feed.
 fn last_line(text: &[u8]) -> &[u8] {
-    match text.iter().rposition(|byte| *byte == b'\n') {
-        Some(at) => &text[at + 1..],
-        None => text,
+    let mut start = 0;
+    let mut passed = 0_usize;
+    for byte in text {
+        passed = passed.saturating_add(1);
+        if *byte == b'\n' {
+            start = passed;
+        }
     }
+    &text[start.min(text.len())..]
 }
 
 /// What stands before the first line feed, and a carriage return before that.
 fn first_line(text: &[u8]) -> &[u8] {
-    let line = match text.iter().position(|byte| *byte == b'\n') {
-        Some(at) => &text[..at],
-        None => text,
-    };
+    let mut len = 0_usize;
+    for byte in text {
+        if *byte == b'\n' {
+            break;
+        }
+        len = len.saturating_add(1);
+    }
+    let line = &text[..len.min(text.len())];
     line.strip_suffix(b"\r").unwrap_or(line)
 }
 
 /// How many columns may stand before what is meant: all of them on a line that is short.
 fn room_before(alloc: Global, begun: &[u8], rest: &[u8]) -> Result<usize, AllocError> {
-    let begun_shown = shown(alloc, window(begun, Side::Front))?;
-    let rest_shown = shown(alloc, window(rest, Side::Back))?;
-    let width = columns(begun_shown.as_str()).saturating_add(columns(rest_shown.as_str()));
+    let width = columns_of(alloc, begun, Side::Front)?;
+    let width = width.saturating_add(columns_of(alloc, rest, Side::Back)?);
     Ok(if width <= MOST { MOST } else { MOST_BEFORE })
 }
 
@@ -106,7 +113,7 @@ fn shown_within(
 fn meant_of(line: &[u8], len: usize) -> &[u8] {
     let mut end = len.min(line.len());
     if end > 0 {
-        for byte in line[end..].iter().take(3) {
+        for byte in &line[end..end.saturating_add(3).min(line.len())] {
             if *byte & 0xC0 != 0x80 {
                 break;
             }
@@ -117,7 +124,7 @@ fn meant_of(line: &[u8], len: usize) -> &[u8] {
 }
 
 /// How many columns the bytes take, those that are looked at.
-fn marks_of(alloc: Global, meant: &[u8]) -> Result<usize, AllocError> {
-    let text = shown(alloc, window(meant, Side::Back))?;
+fn columns_of(alloc: Global, bytes: &[u8], side: Side) -> Result<usize, AllocError> {
+    let text = shown(alloc, window(bytes, side))?;
     Ok(columns(text.as_str()))
 }

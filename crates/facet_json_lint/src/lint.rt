@@ -4,7 +4,7 @@ use crate::advice::{Place, advice};
 use crate::arguments::{Layout, Options};
 use crate::check::{Fault, check, formatted, parser_of};
 use crate::files;
-use crate::repeats::{Repeat, repeats};
+use crate::repeats::{Repeat, key_text, repeats};
 use crate::report::{Aside, Colours, Report, write_report};
 use crate::shown::shown;
 use crate::tally::{Tally, Verdict};
@@ -146,7 +146,7 @@ impl Lint<'_> {
         let alloc = self.rt.alloc();
         let mut parser = parser_of(alloc, self.options.language, source.text);
         match repeats(alloc, &mut parser) {
-            Ok(found) => self.tell_repeats(source, found, output),
+            Ok(found) => self.tell_repeats(source, found.as_slice(), output),
             Err(error) => self.tell_error(source, error, output),
         }
     }
@@ -155,7 +155,7 @@ impl Lint<'_> {
     fn tell_repeats<W: Write>(
         self,
         source: Source<'_>,
-        found: Vec<Repeat>,
+        found: &[Repeat],
         output: &mut W,
     ) -> io::Result<Verdict> {
         if found.is_empty() {
@@ -164,7 +164,7 @@ impl Lint<'_> {
         if self.options.is_quiet {
             return Ok(Verdict::Reported);
         }
-        for repeat in found.iter().take(MOST_REPEATS) {
+        for repeat in &found[..found.len().min(MOST_REPEATS)] {
             self.tell_repeat(source, *repeat, output)?;
         }
         if found.len() > MOST_REPEATS {
@@ -182,16 +182,17 @@ impl Lint<'_> {
         output: &mut W,
     ) -> io::Result<()> {
         let alloc = self.rt.alloc();
-        let key = shown(alloc, repeat.key(source.text))?;
+        let (offset, len, first) = repeat;
+        let key = shown(alloc, key_text(source.text, offset, len))?;
         let report = Report {
             name: source.shown,
             source: source.text,
-            span: Span::new(repeat.offset, repeat.len),
+            span: Span::new(offset, len),
             kind: &JsonErrorKind::DuplicateKey { key },
             advice: "remove one of the two, or rename it",
             aside: Some(Aside {
                 what: "first here",
-                offset: repeat.first,
+                offset: first,
             }),
         };
         write_report(alloc, &report, self.colours, output)

@@ -86,7 +86,12 @@ fn run(rt: &HostRuntime) -> io::Result<u8> {
         Err(error) if error.kind() == ErrorKind::InvalidData => return refuse(rt, Misuse::NoText),
         Err(error) => return Err(error),
     };
-    match request_of(rt.alloc(), args.as_slice()) {
+    answer(rt, args.as_slice())
+}
+
+/// Does what the arguments ask for, and answers the status.
+fn answer(rt: &HostRuntime, args: &[String]) -> io::Result<u8> {
+    match request_of(rt.alloc(), args) {
         Ok(Request::Lint(options, names)) => check_all(rt, options, names.as_slice()),
         Ok(Request::Help) => {
             println!(rt; "{USAGE}\n{HELP}")?;

@@ -4,36 +4,22 @@ use facet_json::{DeserializeError, FormatParser, JsonParser, ParseEvent, ParseEv
 use std::alloc::{AllocError, Global};
 use std::borrow::CowStr;
 
-/// A key that its object had before. They are in the order in which they come.
-#[derive(Clone, Copy, PartialEq, Eq, PartialOrd, Ord)]
-pub struct Repeat {
-    /// Its offset in the source, in bytes.
-    pub offset: usize,
-    /// How many bytes it has, with its quotes.
-    pub len: usize,
-    /// The offset of the first such key of the object.
-    pub first: usize,
-}
+/// A key that its object had before: its offset in the source, in bytes, how many it has with its quotes, and the offset of the first such
+/// key of the object. So repeats are in the order in which they come.
+pub type Repeat = (usize, usize, usize);
 
-impl Repeat {
-    /// The key as it stands in the source, without its quotes.
-    pub fn key(self, source: &[u8]) -> &[u8] {
-        let (_, rest) = source.split_at(self.offset.min(source.len()));
-        let (key, _) = rest.split_at(self.len.min(rest.len()));
-        match key {
-            [b'"', inner @ .., b'"'] => inner,
-            _ => key,
-        }
+/// The text between the quotes of a key at this offset of the source, of so many bytes, as it stands there.
+pub fn key_text(source: &[u8], offset: usize, len: usize) -> &[u8] {
+    let (_, rest) = source.split_at(offset.min(source.len()));
+    let (key, _) = rest.split_at(len.min(rest.len()));
+    match key {
+        [b'"', inner @ .., b'"'] => inner,
+        _ => key,
     }
 }
 
-/// A key, whose text is decoded.
-#[derive(PartialEq, Eq, PartialOrd, Ord, Drop)]
-struct Key<'de> {
-    name: CowStr<'de>,
-    offset: usize,
-    len: usize,
-}
+/// A key: its text, decoded, its offset, and how many bytes it has.
+type Key<'de> = (CowStr<'de>, usize, usize);
 
 /// The keys of the objects that are open, and what was found.
 #[derive(Drop)]
@@ -52,11 +38,7 @@ impl<'de> Search<'de> {
         match kind {
             ParseEventKind::StructStart(_) => self.starts.push(self.keys.len())?,
             ParseEventKind::StructEnd => self.close()?,
-            ParseEventKind::FieldKey(key) => self.keys.push(Key {
-                name: key.name,
-                offset: span.offset,
-                len: span.len,
-            })?,
+            ParseEventKind::FieldKey(key) => self.keys.push((key.name, span.offset, span.len))?,
             ParseEventKind::SequenceStart(_)
             | ParseEventKind::SequenceEnd
             | ParseEventKind::Scalar(_) => {}
@@ -80,11 +62,7 @@ fn find(keys: &[Key<'_>], repeats: &mut Vec<Repeat>) -> Result<(), AllocError> {
     let mut first: Option<&Key<'_>> = None;
     for key in keys {
         match first {
-            Some(known) if known.name == key.name => repeats.push(Repeat {
-                offset: key.offset,
-                len: key.len,
-                first: known.offset,
-            })?,
+            Some(known) if known.0 == key.0 => repeats.push((key.1, key.2, known.1))?,
             _ => first = Some(key),
         }
     }
