@@ -4,284 +4,24 @@
 
 use crate::document_pointers::is_of;
 use crate::document_texts::is_written as writes_document;
+use crate::finding::number_at;
+use crate::lent;
+use crate::readers::By;
+use crate::rows::{Row, but_once, expect_rows, is_answer, leaves};
 use crate::typed::is_written;
-use facet_format::{DeserializeError, DeserializeErrorKind, FormatParser, ParseError, Span};
+use facet_format::{DeserializeError, DeserializeErrorKind, Span};
 use facet_json::scanner::Mode;
-use facet_json::steps::{FindError, begin_object, find_key, find_pointer};
-use facet_json::{
-    Document, Done, FormatOptions, Line, LineError, Lines, Need, format_text, from_slice,
-    from_slice_borrowed, from_slice_borrowed_jsonc, from_slice_jsonc, from_slice_prefix,
-    from_slice_strict, from_str, from_str_borrowed, from_str_borrowed_jsonc, from_str_jsonc,
-    from_str_prefix, from_str_strict, read_fields, to_vec, tree, write_fields,
-};
+use facet_json::steps::{FindError, begin_object, find_pointer};
+use facet_json::{Document, FormatOptions, Line, LineError, Lines, format_text, to_vec, tree};
 use facet_json_core::RawJson;
 use facet_json_examples::accounts::Account;
+use facet_json_examples::records;
 use facet_json_facet::Facet;
 use facet_json_parser::JsonParser;
-use facet_json_serializer::{JsonSerializeError, JsonSerializer};
 use facet_json_tree::Tree;
 use std::alloc::{AllocError, Global};
 use std::collections::BTreeMap;
 use std::process::Abort;
-
-/// Whether a call that was made twice gave its whole answer, but for one time at most in which memory ran out.
-fn but_once(first: Option<bool>, again: Option<bool>) -> bool {
-    first.unwrap_or(true) && again.unwrap_or(true) && (first.is_some() || again.is_some())
-}
-
-/// A way to read a value of a type.
-enum Entry {
-    /// `from_slice`
-    Slice,
-    /// `from_slice_jsonc`
-    SliceJsonc,
-    /// `from_slice_prefix`
-    SlicePrefix,
-    /// `from_slice_strict`
-    SliceStrict,
-    /// `from_str`
-    Str,
-    /// `from_str_jsonc`
-    StrJsonc,
-    /// `from_str_prefix`
-    StrPrefix,
-    /// `from_str_strict`
-    StrStrict,
-    /// The type's own `read_owned`, by a parser
-    Owned,
-    /// `from_slice_borrowed`
-    SliceBorrowed,
-    /// `from_slice_borrowed_jsonc`
-    SliceBorrowedJsonc,
-    /// `from_str_borrowed`
-    StrBorrowed,
-    /// `from_str_borrowed_jsonc`
-    StrBorrowedJsonc,
-    /// The type's own `read`, by a parser
-    Borrowed,
-}
-
-/// Some of them.
-enum By {
-    /// All
-    Each,
-    /// Those that read more than RFC 8259 has
-    Lenient,
-    /// Those that read comments
-    Comments,
-    /// Those that borrow nothing
-    Owned,
-    /// Those that may borrow
-    Borrowed,
-}
-
-/// All of them, and what they are called.
-static ENTRIES: [(Entry, &str); 14] = [
-    (Entry::Slice, "from_slice"),
-    (Entry::SliceJsonc, "from_slice_jsonc"),
-    (Entry::SlicePrefix, "from_slice_prefix"),
-    (Entry::Str, "from_str"),
-    (Entry::StrJsonc, "from_str_jsonc"),
-    (Entry::StrPrefix, "from_str_prefix"),
-    (Entry::Owned, "read_owned"),
-    (Entry::SliceStrict, "from_slice_strict"),
-    (Entry::StrStrict, "from_str_strict"),
-    (Entry::SliceBorrowed, "from_slice_borrowed"),
-    (Entry::SliceBorrowedJsonc, "from_slice_borrowed_jsonc"),
-    (Entry::StrBorrowed, "from_str_borrowed"),
-    (Entry::StrBorrowedJsonc, "from_str_borrowed_jsonc"),
-    (Entry::Borrowed, "read"),
-];
-
-/// Whether an entry is one of these.
-fn is_one(entry: &Entry, by: &By) -> bool {
-    let borrows = matches!(
-        entry,
-        Entry::SliceBorrowed
-            | Entry::SliceBorrowedJsonc
-            | Entry::StrBorrowed
-            | Entry::StrBorrowedJsonc
-            | Entry::Borrowed
-    );
-    match by {
-        By::Each => true,
-        By::Lenient => !matches!(entry, Entry::SliceStrict | Entry::StrStrict),
-        By::Comments => matches!(
-            entry,
-            Entry::SliceJsonc
-                | Entry::StrJsonc
-                | Entry::SliceBorrowedJsonc
-                | Entry::StrBorrowedJsonc
-        ),
-        By::Owned => !borrows,
-        By::Borrowed => borrows,
-    }
-}
-
-/// What some entries read of an input.
-struct Row<'r> {
-    by: By,
-    input: &'r str,
-    /// The text of the value, or the refusal.
-    answer: Result<&'r str, DeserializeError<'r>>,
-    /// The last token before each event for which the parser may want memory.
-    wants: &'r [(usize, usize)],
-    /// Whether the type may want some for itself.
-    grows: bool,
-}
-
-/// Whether a refusal tells that memory ran out: at one of these tokens, or at none where the type wanted it.
-fn is_want(error: &DeserializeError<'_>, row: &Row<'_>) -> bool {
-    let place = match error.span {
-        Some(span) => row.wants.contains(&(span.offset, span.len)),
-        None => row.grows,
-    };
-    place && error.kind == DeserializeErrorKind::OutOfMemory
-}
-
-/// Whether the row's refusal was given.
-fn is_refusal(error: DeserializeError<'_>, row: &Row<'_>) -> Option<bool> {
-    if is_want(&error, row) {
-        return None;
-    }
-    match row.answer {
-        Ok(_) => Some(false),
-        Err(wanted) => Some(error == wanted),
-    }
-}
-
-/// Whether the value is written as the row's text.
-fn is_value<'de, T: Facet<'de>>(alloc: Global, value: &T, row: &Row<'_>) -> Option<bool> {
-    match row.answer {
-        Ok(text) => is_written(to_vec(alloc, value), text),
-        Err(_) => Some(false),
-    }
-}
-
-/// Whether the row's answer was given.
-fn is_answer<'de, T: Facet<'de>>(
-    alloc: Global,
-    answer: &Result<T, DeserializeError<'_>>,
-    row: &Row<'_>,
-) -> Option<bool> {
-    match answer {
-        Ok(value) => is_value(alloc, value, row),
-        Err(error) => is_refusal(*error, row),
-    }
-}
-
-/// Whether a parser goes on as it should after a reader's refusal: where the parser itself ran out of memory, it stands where it stood and repeats
-/// that; and where the type did, it has not.
-fn goes_on(
-    kind: DeserializeErrorKind<'_>,
-    span: Option<Span>,
-    current: Option<Span>,
-    refused: Option<ParseError<'_>>,
-) -> bool {
-    let lacks = DeserializeErrorKind::OutOfMemory;
-    match (span, refused) {
-        (Some(at), Some(again)) if kind == lacks => {
-            again == ParseError::new(at, lacks) && current == Some(at)
-        }
-        (Some(_), None) => kind != lacks,
-        (_, Some(other)) => other.kind != lacks,
-        (None, None) => true,
-    }
-}
-
-/// Whether a parser by which the type read goes on as it should.
-fn leaves<T>(answer: &Result<T, DeserializeError<'_>>, parser: &mut JsonParser<'_>) -> bool {
-    match answer {
-        Ok(_) => true,
-        Err(error) => goes_on(
-            error.kind,
-            error.span,
-            parser.current_span(),
-            parser.next_event().err(),
-        ),
-    }
-}
-
-/// Whether the type itself gives the row's answer, and leaves the parser as it should.
-fn reads_by<'de, T: Facet<'de>>(
-    alloc: Global,
-    parser: &mut JsonParser<'de>,
-    borrows: bool,
-    row: &Row<'_>,
-) -> Option<bool> {
-    let answer = if borrows {
-        T::read(alloc, parser)
-    } else {
-        T::read_owned(alloc, parser)
-    };
-    if leaves(&answer, parser) {
-        is_answer(alloc, &answer, row)
-    } else {
-        Some(false)
-    }
-}
-
-/// The same of a parser of the row's input.
-fn reads_itself<'de, T: Facet<'de>>(alloc: Global, borrows: bool, row: &Row<'de>) -> Option<bool> {
-    let input = row.input.as_bytes();
-    reads_by::<T>(alloc, &mut JsonParser::new(alloc, input), borrows, row)
-}
-
-/// The value, without where its document ends.
-fn alone<'t, T: Drop>(
-    answer: Result<(T, usize), DeserializeError<'t>>,
-) -> Result<T, DeserializeError<'t>> {
-    let (value, _) = answer?;
-    Ok(value)
-}
-
-/// What an entry function reads of the text. The type's own readers take a parser, and `reads` makes it.
-fn read_by<'t, 'de, T: Facet<'de>>(
-    alloc: Global,
-    entry: &Entry,
-    text: &'de str,
-) -> Result<T, DeserializeError<'t>> {
-    let bytes = text.as_bytes();
-    match entry {
-        Entry::Slice | Entry::Owned => from_slice(alloc, bytes),
-        Entry::SliceJsonc => from_slice_jsonc(alloc, bytes),
-        Entry::SlicePrefix => alone(from_slice_prefix(alloc, bytes)),
-        Entry::SliceStrict => from_slice_strict(alloc, bytes),
-        Entry::Str => from_str(alloc, text),
-        Entry::StrJsonc => from_str_jsonc(alloc, text),
-        Entry::StrPrefix => alone(from_str_prefix(alloc, text)),
-        Entry::StrStrict => from_str_strict(alloc, text),
-        Entry::SliceBorrowed | Entry::Borrowed => from_slice_borrowed(alloc, bytes),
-        Entry::SliceBorrowedJsonc => from_slice_borrowed_jsonc(alloc, bytes),
-        Entry::StrBorrowed => from_str_borrowed(alloc, text),
-        Entry::StrBorrowedJsonc => from_str_borrowed_jsonc(alloc, text),
-    }
-}
-
-/// Whether the entry gives the row's answer.
-fn reads<'de, T: Facet<'de>>(alloc: Global, entry: &Entry, row: &Row<'de>) -> Option<bool> {
-    match entry {
-        Entry::Owned => reads_itself::<T>(alloc, false, row),
-        Entry::Borrowed => reads_itself::<T>(alloc, true, row),
-        _ => is_answer(alloc, &read_by::<T>(alloc, entry, row.input), row),
-    }
-}
-
-/// The same twice.
-fn is_read<'de, T: Facet<'de>>(alloc: Global, entry: &Entry, row: &Row<'de>) -> bool {
-    let first = reads::<T>(alloc, entry, row);
-    but_once(first, reads::<T>(alloc, entry, row))
-}
-
-/// Fails where an entry doesn't give a row's answer.
-fn expect<'de, T: Facet<'de>>(rt: &impl Abort, alloc: Global, rows: &[Row<'de>]) {
-    for row in rows {
-        for (entry, name) in &ENTRIES {
-            let holds = !is_one(entry, &row.by) || is_read::<T>(alloc, entry, row);
-            assert!(rt; holds, "{name} of {}", row.input);
-        }
-    }
-}
 
 /// Why a text cannot be lent.
 const UNLENT: DeserializeErrorKind<'static> = DeserializeErrorKind::InvalidValue {
@@ -601,61 +341,20 @@ static ACCOUNTS: [Row<'static>; 1] = [Row {
     grows: true,
 }];
 
-#[test]
-fn a_growth_is_refused_in_a_number(rt: HostRuntime) {
-    let alloc = rt.alloc();
-    expect::<bool>(&rt, alloc, &TRUTHS);
-    expect::<u8>(&rt, alloc, &NUMBERS);
-    expect::<u16>(&rt, alloc, &NUMBERS);
-    expect::<u32>(&rt, alloc, &NUMBERS);
-    expect::<u64>(&rt, alloc, &NUMBERS);
-    expect::<usize>(&rt, alloc, &NUMBERS);
-    expect::<i8>(&rt, alloc, &NUMBERS);
-    expect::<i16>(&rt, alloc, &NUMBERS);
-    expect::<i32>(&rt, alloc, &NUMBERS);
-    expect::<i64>(&rt, alloc, &NUMBERS);
-    expect::<isize>(&rt, alloc, &NUMBERS);
-}
-
-#[test]
-fn a_growth_is_refused_in_a_wide_number(rt: HostRuntime) {
-    let alloc = rt.alloc();
-    expect::<u128>(&rt, alloc, &NUMBERS);
-    expect::<u128>(&rt, alloc, &UNSIGNED);
-    expect::<i128>(&rt, alloc, &NUMBERS);
-    expect::<i128>(&rt, alloc, &SIGNED);
-}
-
-#[test]
-fn a_growth_is_refused_in_a_text(rt: HostRuntime) {
-    let alloc = rt.alloc();
-    expect::<String>(&rt, alloc, &TEXTS);
-    expect::<&'static str>(&rt, alloc, &LENT);
-    expect::<RawJson<'static>>(&rt, alloc, &RAWS);
-    expect::<Option<String>>(&rt, alloc, &OPTIONAL);
-}
-
-#[test]
-fn a_growth_is_refused_in_a_container(rt: HostRuntime) {
-    let alloc = rt.alloc();
-    expect::<Vec<Vec<Option<u8>>>>(&rt, alloc, &LISTS);
-    expect::<Vec<String>>(&rt, alloc, &LISTS_OF_TEXTS);
-    expect::<BTreeMap<String, String>>(&rt, alloc, &MAPS);
-    expect::<Tree>(&rt, alloc, &TREES);
-    expect::<Account>(&rt, alloc, &ACCOUNTS);
-}
-
 /// A struct of a name and an age.
 const ALICE: &str = "{\"age\":30,\"is\":[{}],\"name\":\"Alice\"}";
 
-static PERSONS: [Row<'static>; 3] = [
-    Row {
-        by: By::Owned,
-        input: ALICE,
-        answer: Ok("{\"name\":\"Alice\",\"age\":30}"),
-        wants: &[(0, 0), (14, 1)],
-        grows: true,
-    },
+/// Structs whose texts are their own.
+static PERSONS: [Row<'static>; 1] = [Row {
+    by: By::Each,
+    input: ALICE,
+    answer: Ok("{\"name\":\"Alice\",\"age\":30}"),
+    wants: &[(0, 0), (14, 1)],
+    grows: true,
+}];
+
+/// Structs whose texts are lent.
+static LENT_PERSONS: [Row<'static>; 2] = [
     Row {
         by: By::Borrowed,
         input: ALICE,
@@ -672,87 +371,40 @@ static PERSONS: [Row<'static>; 3] = [
     },
 ];
 
-/// A name and an age.
-type Person<N> = Need<N, Need<u8, Done>>;
-
-/// The text of a name and an age.
-fn text_of_person<'de, N: Facet<'de>>(
-    alloc: Global,
-    name: &N,
-    age: &u8,
-) -> Result<Vec<u8>, JsonSerializeError> {
-    let mut serializer = JsonSerializer::new(alloc);
-    write_fields(
-        &mut serializer,
-        &["name", "age"],
-        &Need(name, Need(age, Done)),
-    )?;
-    serializer.finish()
-}
-
-/// Whether the row's answer was given.
-fn is_person<'de, N: Facet<'de>>(
-    alloc: Global,
-    answer: &Result<Person<N>, DeserializeError<'_>>,
-    row: &Row<'_>,
-) -> Option<bool> {
-    match answer {
-        Ok(Need(name, Need(age, Done))) => is_text_of_person(alloc, name, age, row),
-        Err(error) => is_refusal(*error, row),
-    }
-}
-
-/// Whether the name and the age are written as the row's text.
-fn is_text_of_person<'de, N: Facet<'de>>(
-    alloc: Global,
-    name: &N,
-    age: &u8,
-    row: &Row<'_>,
-) -> Option<bool> {
-    match row.answer {
-        Ok(text) => is_written(text_of_person(alloc, name, age), text),
-        Err(_) => Some(false),
-    }
-}
-
-/// Whether a name and an age are read, and written as the row's text.
-fn reads_person_by<'de, N: Facet<'de>>(
-    alloc: Global,
-    parser: &mut JsonParser<'de>,
-    row: &Row<'_>,
-) -> Option<bool> {
-    let borrows = matches!(row.by, By::Borrowed);
-    let answer: Result<Person<N>, DeserializeError<'_>> = read_fields(
-        alloc,
-        parser,
-        borrows,
-        &["name", "age"],
-    );
-    if leaves(&answer, parser) {
-        is_person(alloc, &answer, row)
-    } else {
-        Some(false)
-    }
-}
-
-/// The same of a parser of the row's input, twice.
-fn reads_person<'de, N: Facet<'de>>(alloc: Global, row: &Row<'de>) -> bool {
-    let input = row.input.as_bytes();
-    let first = reads_person_by::<N>(alloc, &mut JsonParser::new(alloc, input), row);
-    let again = reads_person_by::<N>(alloc, &mut JsonParser::new(alloc, input), row);
-    but_once(first, again)
+#[test]
+fn a_growth_is_refused_in_a_number(rt: HostRuntime) {
+    let alloc = rt.alloc();
+    expect_rows::<bool>(&rt, alloc, &TRUTHS);
+    expect_rows::<u8>(&rt, alloc, &NUMBERS);
+    expect_rows::<u16>(&rt, alloc, &NUMBERS);
+    expect_rows::<u32>(&rt, alloc, &NUMBERS);
+    expect_rows::<u64>(&rt, alloc, &NUMBERS);
+    expect_rows::<usize>(&rt, alloc, &NUMBERS);
+    expect_rows::<i8>(&rt, alloc, &NUMBERS);
+    expect_rows::<i16>(&rt, alloc, &NUMBERS);
+    expect_rows::<i32>(&rt, alloc, &NUMBERS);
+    expect_rows::<i64>(&rt, alloc, &NUMBERS);
+    expect_rows::<isize>(&rt, alloc, &NUMBERS);
+    expect_rows::<u128>(&rt, alloc, &NUMBERS);
+    expect_rows::<u128>(&rt, alloc, &UNSIGNED);
+    expect_rows::<i128>(&rt, alloc, &NUMBERS);
+    expect_rows::<i128>(&rt, alloc, &SIGNED);
 }
 
 #[test]
-fn a_growth_is_refused_in_a_struct(rt: HostRuntime) {
+fn a_growth_is_refused_in_another_value(rt: HostRuntime) {
     let alloc = rt.alloc();
-    for row in &PERSONS {
-        let holds = match row.by {
-            By::Borrowed => reads_person::<&str>(alloc, row),
-            _ => reads_person::<String>(alloc, row),
-        };
-        assert!(rt; holds, "{}", row.input);
-    }
+    expect_rows::<String>(&rt, alloc, &TEXTS);
+    expect_rows::<&'static str>(&rt, alloc, &LENT);
+    expect_rows::<RawJson<'static>>(&rt, alloc, &RAWS);
+    expect_rows::<Option<String>>(&rt, alloc, &OPTIONAL);
+    expect_rows::<Vec<Vec<Option<u8>>>>(&rt, alloc, &LISTS);
+    expect_rows::<Vec<String>>(&rt, alloc, &LISTS_OF_TEXTS);
+    expect_rows::<BTreeMap<String, String>>(&rt, alloc, &MAPS);
+    expect_rows::<Tree>(&rt, alloc, &TREES);
+    expect_rows::<Account>(&rt, alloc, &ACCOUNTS);
+    expect_rows::<records::Person>(&rt, alloc, &PERSONS);
+    expect_rows::<lent::Person<'static>>(&rt, alloc, &LENT_PERSONS);
 }
 
 /// Objects in which the number at the key `ab` is searched.
@@ -786,10 +438,7 @@ fn number_at_ab<'t>(
     parser: &mut JsonParser<'_>,
 ) -> Result<Option<u64>, DeserializeError<'t>> {
     begin_object(parser)?;
-    if find_key(parser, "ab")? {
-        return Ok(Some(u64::read_owned(alloc, parser)?));
-    }
-    Ok(None)
+    number_at(alloc, parser, "ab")
 }
 
 /// Inputs in which the number that `/a~1b/0/ab` names is searched.
@@ -925,13 +574,6 @@ fn is_made(alloc: Global) -> Option<bool> {
     }
 }
 
-#[test]
-fn a_growth_is_refused_in_a_tree_that_is_written_down(rt: HostRuntime) {
-    let alloc = rt.alloc();
-    let first = is_made(alloc);
-    assert!(rt; but_once(first, is_made(alloc)));
-}
-
 /// A text that is laid out, and how.
 const TO_LAY_OUT: (&str, &str) = (
     "{\"\\u0061\":[1,],// a\n}",
@@ -948,12 +590,6 @@ fn lays_out(alloc: Global) -> Option<bool> {
     }
 }
 
-#[test]
-fn a_growth_is_refused_in_a_layout(rt: HostRuntime) {
-    let first = lays_out(rt.alloc());
-    assert!(rt; but_once(first, lays_out(rt.alloc())));
-}
-
 /// Whether a text with an escape, a container within another and a number past 64 bits is read into nodes, if memory suffices.
 fn is_in_nodes(alloc: Global) -> Option<bool> {
     let text = "[{\"\\u0061\":18446744073709551616},\"\\n\"]";
@@ -962,12 +598,6 @@ fn is_in_nodes(alloc: Global) -> Option<bool> {
         Err(error) if error.kind == DeserializeErrorKind::OutOfMemory => None,
         Err(_) => Some(false),
     }
-}
-
-#[test]
-fn a_growth_is_refused_in_a_document(rt: HostRuntime) {
-    let first = is_in_nodes(rt.alloc());
-    assert!(rt; but_once(first, is_in_nodes(rt.alloc())));
 }
 
 /// Whether the tree of a document's value is taken of its nodes, if memory suffices: texts, a number, and containers within others.
@@ -983,12 +613,6 @@ fn tree_in_nodes(alloc: Global, text: &str) -> Option<Tree> {
     document.root().to_tree(alloc).ok()
 }
 
-#[test]
-fn a_growth_is_refused_where_a_tree_is_taken(rt: HostRuntime) {
-    let first = is_taken(rt.alloc());
-    assert!(rt; but_once(first, is_taken(rt.alloc())));
-}
-
 /// Whether a document's value is written, if memory suffices.
 fn is_written_again(alloc: Global) -> Option<bool> {
     let text = "[{\"\\u0061\":18446744073709551616,\"b\":[1.5,[]]},\"c\"]";
@@ -998,7 +622,25 @@ fn is_written_again(alloc: Global) -> Option<bool> {
 }
 
 #[test]
-fn a_growth_is_refused_where_a_value_is_written(rt: HostRuntime) {
-    let first = is_written_again(rt.alloc());
-    assert!(rt; but_once(first, is_written_again(rt.alloc())));
+fn a_growth_is_refused_in_a_document(rt: HostRuntime) {
+    let alloc = rt.alloc();
+    let made = is_made(alloc);
+    assert!(rt;
+        but_once(made, is_made(alloc)),
+        "a tree that is written down"
+    );
+    let laid_out = lays_out(alloc);
+    assert!(rt; but_once(laid_out, lays_out(alloc)), "a layout");
+    let in_nodes = is_in_nodes(alloc);
+    assert!(rt; but_once(in_nodes, is_in_nodes(alloc)), "a document");
+    let taken = is_taken(alloc);
+    assert!(rt;
+        but_once(taken, is_taken(alloc)),
+        "a tree that is taken of a document"
+    );
+    let written = is_written_again(alloc);
+    assert!(rt;
+        but_once(written, is_written_again(alloc)),
+        "a value that is written"
+    );
 }

@@ -1,74 +1,79 @@
-//! Values that may be null, lists and maps.
+//! Values that may be null, lists, maps and trees.
 
-use crate::typed::{is_itself, mismatch, out_of_range, refuses, rewrites, stands_for};
-use facet_format::Span;
-use std::alloc::{AllocError, Global};
+use crate::readers::By;
+use crate::rows::{Case, Told, expect};
+use crate::typed::{expect_value, expect_values};
+use facet_json::from_slice;
+use facet_json_tree::Tree;
 use std::collections::BTreeMap;
 
-#[test]
-fn a_value_may_be_null(rt: HostRuntime) {
-    let alloc = rt.alloc();
-    assert!(rt; is_itself(alloc, "null", None::<u8>));
-    assert!(rt; is_itself(alloc, "7", Some(7_u8)));
-    assert!(rt; refuses::<Option<u8>>(alloc, "300", out_of_range("u8"), Span::new(0, 3)));
-}
+/// Values that may be null.
+static OPTIONAL: [(&str, Option<u8>, &str); 2] = [("null", None, "null"), ("7", Some(7), "7")];
 
-/// Whether the input is read as the list of 1 and null, which is written as the text.
-fn is_list(alloc: Global, input: &str, text: &str) -> bool {
-    match vec![in alloc; Some(1_u8), None] {
-        Ok(items) => stands_for(alloc, input, items, text),
-        Err(_) => false,
-    }
-}
+/// What is none.
+static NOT_OPTIONAL: [Case<'static>; 1] = [("300", Told::Range("u8"), 0, 3)];
 
-/// A list of a list of one value and an empty list.
-fn nested(alloc: Global) -> Result<Vec<Vec<bool>>, AllocError> {
-    let mut items = Vec::new(alloc);
-    items.push(vec![in alloc; true]?)?;
-    items.push(Vec::new(alloc))?;
-    Ok(items)
-}
-
-/// Whether lists of lists are read and written.
-fn lists_are_nested(alloc: Global) -> bool {
-    match nested(alloc) {
-        Ok(items) => is_itself(alloc, "[[true],[]]", items),
-        Err(_) => false,
-    }
-}
-
-#[test]
-fn lists_are_read_and_written(rt: HostRuntime) {
-    let alloc = rt.alloc();
-    assert!(rt; is_itself(alloc, "[]", Vec::<u8>::new(alloc)));
-    assert!(rt; is_list(alloc, "[1,null]", "[1,null]"));
-    assert!(rt; is_list(alloc, "[ 1, null, ]", "[1,null]"));
-    assert!(rt; lists_are_nested(alloc));
-    assert!(rt; refuses::<Vec<u8>>(alloc, "{}", mismatch("array", "object"), Span::new(0, 1)));
-    assert!(rt; refuses::<Vec<u8>>(alloc, "[1, 300]", out_of_range("u8"), Span::new(4, 3)));
-}
+/// What is no list.
+static NO_LIST: [Case<'static>; 2] = [
+    ("{}", Told::Other("array", "object"), 0, 1),
+    ("[1, 300]", Told::Range("u8"), 4, 3),
+];
 
 /// Objects, and how the maps are written that they are read as.
-static MAPS: [(&str, &str); 4] = [
-    ("{}", "{}"),
-    ("{\"b\":1,\"a\":2}", "{\"a\":2,\"b\":1}"),
-    ("{\"a\":1,\"a\":2}", "{\"a\":2}"),
-    ("{\"a\":1,\"\\u0061\":2}", "{\"a\":2}"),
+static MAPS: [Case<'static>; 4] = [
+    ("{}", Told::Value("{}"), 0, 0),
+    ("{\"b\":1,\"a\":2}", Told::Value("{\"a\":2,\"b\":1}"), 0, 0),
+    ("{\"a\":1,\"a\":2}", Told::Value("{\"a\":2}"), 0, 0),
+    ("{\"a\":1,\"\\u0061\":2}", Told::Value("{\"a\":2}"), 0, 0),
+];
+
+/// What is no map.
+static NO_MAP: [Case<'static>; 2] = [
+    ("[]", Told::Other("object", "array"), 0, 1),
+    ("{\"a\":-1}", Told::Range("u8"), 5, 2),
 ];
 
 #[test]
-fn maps_are_read_and_written(rt: HostRuntime) {
+fn lists_and_maps_are_read_and_written(rt: HostRuntime) {
     let alloc = rt.alloc();
-    for (input, text) in &MAPS {
-        assert!(rt;
-            rewrites::<BTreeMap<String, u8>>(alloc, input, text),
-            "of {input}"
-        );
+    expect_values::<Option<u8>>(&rt, alloc, By::Each, &OPTIONAL);
+    expect::<Option<u8>>(&rt, alloc, By::Each, &NOT_OPTIONAL);
+    expect_value(&rt, alloc, By::Each, "[]", &Vec::<u8>::new(alloc), "[]");
+    let list = vec![in alloc; Some(1_u8), None].expect(&rt, "memory");
+    expect_value(&rt, alloc, By::Each, "[1,null]", &list, "[1,null]");
+    expect_value(&rt, alloc, By::Lenient, "[ 1, null, ]", &list, "[1,null]");
+    let mut lists = Vec::new(alloc);
+    lists
+        .push(vec![in alloc; true].expect(&rt, "memory"))
+        .expect(&rt, "memory");
+    lists.push(Vec::new(alloc)).expect(&rt, "memory");
+    expect_value(&rt, alloc, By::Each, "[[true],[]]", &lists, "[[true],[]]");
+    expect::<Vec<u8>>(&rt, alloc, By::Each, &NO_LIST);
+    expect::<BTreeMap<String, u8>>(&rt, alloc, By::Each, &MAPS);
+    expect::<BTreeMap<String, u8>>(&rt, alloc, By::Each, &NO_MAP);
+}
+
+/// Whether the values are an object and a list of a truth value.
+fn are_values(map: &BTreeMap<String, Tree>) -> bool {
+    match (map.get("a"), map.get("b")) {
+        (Some(a), Some(b)) => {
+            a.as_pairs().is_some() && matches!(b.item(0), Some(Tree::Bool(true)))
+        }
+        _ => false,
     }
-    assert!(rt;
-        refuses::<BTreeMap<String, u8>>(alloc, "[]", mismatch("object", "array"), Span::new(0, 1))
-    );
-    assert!(rt;
-        refuses::<BTreeMap<String, u8>>(alloc, "{\"a\":-1}", out_of_range("u8"), Span::new(5, 2))
-    );
+}
+
+#[test]
+fn any_value_is_a_tree(rt: HostRuntime) {
+    let alloc = rt.alloc();
+    expect_value(&rt, alloc, By::Each, "null", &Tree::Null, "null");
+    expect_value(&rt, alloc, By::Each, "7", &Tree::U64(7), "7");
+    expect_value(&rt, alloc, By::Each, "-0", &Tree::I64(0), "0");
+    expect_value(&rt, alloc, By::Each, "7", &Some(Tree::U64(7)), "7");
+    let items = vec![in alloc; Tree::U64(7), Tree::Null, Tree::I64(-1)].expect(&rt, "memory");
+    let list = Tree::List(items);
+    expect_value(&rt, alloc, By::Each, "[7,null,-1]", &list, "[7,null,-1]");
+    let text = "{\"a\":1,\"b\":[true],\"a\":{}}";
+    let map: BTreeMap<String, Tree> = from_slice(alloc, text.as_bytes()).expect(&rt, text);
+    assert!(rt; map.len() == 2 && are_values(&map), "of {text}");
 }

@@ -2,6 +2,7 @@
 
 use facet_json::{Document, PointerError, Tree, Value, tree_from_slice};
 use std::alloc::Global;
+use std::process::Abort;
 
 /// Whether the value's tree is the text's.
 fn has_tree(alloc: Global, value: &Value<'_, '_>, text: &str) -> bool {
@@ -19,21 +20,16 @@ pub fn is_of(alloc: Global, tree: &Tree, text: &str) -> Option<bool> {
     }
 }
 
-/// Whether the pointer names this value of the document, or nothing where nothing is wanted.
-fn names(alloc: Global, text: &str, pointer: &str, wanted: Option<&str>) -> bool {
-    match Document::parse(alloc, text.as_bytes()) {
-        Ok(document) => leads_to(alloc, &document, pointer, wanted),
-        Err(_) => false,
-    }
-}
-
-/// The same of a document that is read.
-fn leads_to(alloc: Global, document: &Document<'_>, pointer: &str, wanted: Option<&str>) -> bool {
-    match (document.root().pointer(pointer), wanted) {
-        (Ok(Some(found)), Some(wanted)) => has_tree(alloc, &found, wanted),
-        (Ok(None), None) => true,
+/// Fails where the pointer does not name this value of the document, or names one where nothing is wanted.
+fn expect_named(rt: &impl Abort, alloc: Global, text: &str, pointer: &str, wanted: Option<&str>) {
+    let document = Document::parse(alloc, text.as_bytes()).expect(rt, text);
+    let found = document.root().pointer(pointer).expect(rt, pointer);
+    let holds = match (&found, wanted) {
+        (Some(value), Some(wanted)) => has_tree(alloc, value, wanted),
+        (None, None) => true,
         _ => false,
-    }
+    };
+    assert!(rt; holds, "{pointer} of {text}");
 }
 
 /// The document of RFC 6901, section 5.
@@ -91,20 +87,6 @@ static WITHIN: [(&str, &str, Option<&str>); 11] = [
     (r#"{"a":[0,{"b":[1,2]}]}"#, "/a/1/b/1", Some("2")),
 ];
 
-#[test]
-fn pointers_name_values(rt: HostRuntime) {
-    let alloc = rt.alloc();
-    for (pointer, wanted) in &NAMED {
-        assert!(rt; names(alloc, DOCUMENT, *pointer, Some(*wanted)));
-    }
-    for pointer in &UNNAMED {
-        assert!(rt; names(alloc, DOCUMENT, *pointer, None));
-    }
-    for (text, pointer, wanted) in &WITHIN {
-        assert!(rt; names(alloc, *text, *pointer, *wanted));
-    }
-}
-
 /// Texts that are no pointers, and why.
 static REFUSED: [(&str, PointerError); 10] = [
     ("/é~", PointerError::LoneTilde(3)),
@@ -119,20 +101,36 @@ static REFUSED: [(&str, PointerError); 10] = [
     ("foo", PointerError::NoSlash),
 ];
 
-/// Whether the text is refused so in this document.
-fn refuses(alloc: Global, document: &str, text: &str, wanted: &PointerError) -> bool {
-    match Document::parse(alloc, document.as_bytes()) {
-        Ok(document) => document.root().pointer(text).err() == Some(*wanted),
-        Err(_) => false,
-    }
+/// Fails where the text is not refused so in this document.
+fn expect_refused(
+    rt: &impl Abort,
+    alloc: Global,
+    document: &str,
+    text: &str,
+    wanted: PointerError,
+) {
+    let document = Document::parse(alloc, document.as_bytes()).expect(rt, document);
+    assert!(rt;
+        document.root().pointer(text).err() == Some(wanted),
+        "{text}"
+    );
 }
 
 #[test]
-fn what_is_no_pointer_is_refused(rt: HostRuntime) {
+fn pointers_name_values(rt: HostRuntime) {
     let alloc = rt.alloc();
-    for (text, wanted) in &REFUSED {
-        assert!(rt; refuses(alloc, "null", *text, wanted));
-        assert!(rt; refuses(alloc, "{}", *text, wanted));
+    for &(pointer, wanted) in &NAMED {
+        expect_named(&rt, alloc, DOCUMENT, pointer, Some(wanted));
+    }
+    for &pointer in &UNNAMED {
+        expect_named(&rt, alloc, DOCUMENT, pointer, None);
+    }
+    for &(text, pointer, wanted) in &WITHIN {
+        expect_named(&rt, alloc, text, pointer, wanted);
+    }
+    for &(text, wanted) in &REFUSED {
+        expect_refused(&rt, alloc, "null", text, wanted);
+        expect_refused(&rt, alloc, "{}", text, wanted);
     }
 }
 
@@ -155,27 +153,19 @@ static TREES: [&str; 14] = [
     "[1,[2,[3,[4,[5,{\"a\":[6]}]]]],7]",
 ];
 
-/// Whether the tree of the text's nodes is the one that is read of it.
-fn is_copied(alloc: Global, text: &str) -> bool {
-    match Document::parse(alloc, text.as_bytes()) {
-        Ok(document) => has_tree(alloc, &document.root(), text),
-        Err(_) => false,
-    }
-}
-
 /// The tree of a value within a document that is gone.
-fn kept(alloc: Global, text: &str, name: &str) -> Option<Tree> {
-    let document = Document::parse(alloc, text.as_bytes()).ok()?;
-    let value = document.root().get(name)?;
-    value.to_tree(alloc).ok()
+fn kept(rt: &impl Abort, alloc: Global, text: &str, name: &str) -> Tree {
+    let document = Document::parse(alloc, text.as_bytes()).expect(rt, text);
+    let value = document.root().get(name).expect(rt, name);
+    value.to_tree(alloc).expect(rt, "memory")
 }
 
 #[test]
 fn trees_are_taken_of_nodes(rt: HostRuntime) {
     let alloc = rt.alloc();
-    for text in &TREES {
-        assert!(rt; is_copied(alloc, *text));
+    for &text in &TREES {
+        expect_named(&rt, alloc, text, "", Some(text));
     }
-    let tree = kept(alloc, r#"{"a":[1,"\u0062"],"b":2}"#, "a").expect(&rt, "a tree");
+    let tree = kept(&rt, alloc, r#"{"a":[1,"\u0062"],"b":2}"#, "a");
     assert!(rt; is_of(alloc, &tree, r#"[1,"b"]"#) == Some(true));
 }

@@ -2,6 +2,7 @@
 
 use facet_json::{Document, Value};
 use std::alloc::Global;
+use std::process::Abort;
 
 /// How a text is read.
 enum Language {
@@ -204,26 +205,22 @@ fn has_raw(alloc: Global, value: &Value<'_, '_>, raw: &[u8]) -> bool {
         }
 }
 
-/// Whether the row is told.
-fn is_told(alloc: Global, row: &Row) -> bool {
-    match read(alloc, &row.language, row.text.as_bytes()) {
-        Some(document) => is_there(alloc, &document, row),
-        None => false,
-    }
-}
-
-/// Whether the row is told of its document.
-fn is_there(alloc: Global, document: &Document<'_>, row: &Row) -> bool {
-    match document.root().pointer(row.pointer) {
-        Ok(Some(value)) => has_raw(alloc, &value, row.raw.as_bytes()),
-        _ => false,
-    }
+/// Fails where the row is not told.
+fn expect_row(rt: &impl Abort, alloc: Global, row: &Row) {
+    let document = read(alloc, &row.language, row.text.as_bytes()).expect(rt, row.text);
+    let found = document.root().pointer(row.pointer).expect(rt, row.pointer);
+    let value = found.expect(rt, row.pointer);
+    assert!(rt;
+        has_raw(alloc, &value, row.raw.as_bytes()),
+        "{} of {}",
+        row.pointer,
+        row.text
+    );
 }
 
 #[test]
 fn values_have_their_bytes(rt: HostRuntime) {
-    let alloc = rt.alloc();
     for row in &ROWS {
-        assert!(rt; is_told(alloc, row));
+        expect_row(&rt, rt.alloc(), row);
     }
 }

@@ -2,8 +2,9 @@
 
 use crate::typed;
 use facet_format::FormatSerializer;
-use facet_json::{Document, JsonSerializeError, JsonSerializer, SerializeOptions, Value};
+use facet_json::{Document, JsonSerializeError, JsonSerializer, SerializeOptions};
 use std::alloc::Global;
+use std::process::Abort;
 
 /// A text, and the list of its root twice, as it is written.
 type Row = (&'static str, &'static str);
@@ -58,37 +59,24 @@ pub fn is_written(alloc: Global, text: &str, wanted: &str) -> Option<bool> {
     }
 }
 
+/// Fails where a member, laid out by these options, is not this text.
+fn expect_laid_out(rt: &impl Abort, alloc: Global, options: SerializeOptions<'_>, wanted: &str) {
+    let document = Document::parse(alloc, b"{\"a\":[{\"b\":[1,{}]}]}").expect(rt, "a document");
+    let member = document.root().get("a").expect(rt, "a member");
+    let mut serializer = JsonSerializer::with_options(alloc, options);
+    assert!(rt; member.write(&mut serializer).is_ok(), "{wanted}");
+    assert!(rt;
+        typed::is_written(serializer.finish(), wanted) == Some(true),
+        "{wanted}"
+    );
+}
+
 #[test]
 fn values_are_written(rt: HostRuntime) {
-    for (text, wanted) in &ROWS {
-        assert!(rt;
-            is_written(rt.alloc(), text, wanted) == Some(true),
-            "{text}"
-        );
+    let alloc = rt.alloc();
+    for &(text, wanted) in &ROWS {
+        assert!(rt; is_written(alloc, text, wanted) == Some(true), "{text}");
     }
-}
-
-/// A value, laid out by these options.
-fn laid_out(
-    alloc: Global,
-    options: SerializeOptions<'_>,
-    value: &Value<'_, '_>,
-) -> Result<Vec<u8>, JsonSerializeError> {
-    let mut serializer = JsonSerializer::with_options(alloc, options);
-    value.write(&mut serializer)?;
-    serializer.finish()
-}
-
-/// Whether a member, laid out by these options, is this text.
-fn is_laid_out(alloc: Global, options: SerializeOptions<'_>, wanted: &str) -> Option<bool> {
-    let document = Document::parse(alloc, b"{\"a\":[{\"b\":[1,{}]}]}").ok()?;
-    let member = document.root().get("a")?;
-    typed::is_written(laid_out(alloc, options, &member), wanted)
-}
-
-#[test]
-fn a_member_is_laid_out(rt: HostRuntime) {
     let wanted = "[\n  {\n    \"b\": [\n      1,\n      {}\n    ]\n  }\n]";
-    let laid_out = is_laid_out(rt.alloc(), SerializeOptions::new().pretty(), wanted);
-    assert!(rt; laid_out == Some(true));
+    expect_laid_out(&rt, alloc, SerializeOptions::new().pretty(), wanted);
 }

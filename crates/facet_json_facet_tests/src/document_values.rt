@@ -1,9 +1,8 @@
 //! Documents as lists of nodes: what is found in them, and what they are by each call. The wanted values are those of RFC 8259 for these texts.
 
-use crate::checking::{At, place_of};
-use facet_format::DeserializeError;
 use facet_json::{Document, Value, ValueKind};
 use std::alloc::Global;
+use std::process::Abort;
 
 /// What a value is.
 enum Wanted {
@@ -244,59 +243,14 @@ fn found<'d, 'i>(document: &'d Document<'i>, row: &Row) -> Option<Value<'d, 'i>>
     Some(value)
 }
 
-/// Whether the row is told.
-fn is_told(alloc: Global, row: &Row) -> bool {
-    match Document::parse(alloc, row.text.as_bytes()) {
-        Ok(document) => is_found(&document, row),
-        Err(_) => false,
-    }
-}
-
-/// Whether the row is told of its document.
-fn is_found(document: &Document<'_>, row: &Row) -> bool {
-    match found(document, row) {
+/// Fails where the row is not told.
+fn expect_row(rt: &impl Abort, alloc: Global, row: &Row) {
+    let document = Document::parse(alloc, row.text.as_bytes()).expect(rt, row.text);
+    let holds = match found(&document, row) {
         Some(value) => is_wanted(&value, &row.wanted),
         None => matches!(row.wanted, Wanted::Nothing),
-    }
-}
-
-#[test]
-fn values_are_found(rt: HostRuntime) {
-    let alloc = rt.alloc();
-    for row in &ROWS {
-        assert!(rt; is_told(alloc, row));
-    }
-}
-
-/// An input, and what `parse`, `parse_jsonc` and `parse_strict` refuse, where they refuse it.
-type Refused = (&'static str, At, At, At);
-
-static REFUSED: [Refused; 6] = [
-    ("[1,]", None, None, Some((3, 1))),
-    ("[1] x", None, None, Some((4, 1))),
-    ("[1, /* one */]", Some((4, 1)), None, Some((4, 1))),
-    ("[1 2]", Some((3, 1)), Some((3, 1)), Some((3, 1))),
-    ("", Some((0, 0)), Some((0, 0)), Some((0, 0))),
-    ("[1}", Some((2, 1)), Some((2, 1)), Some((2, 1))),
-];
-
-/// What is refused.
-fn refused(read: Result<Document<'_>, DeserializeError<'_>>) -> At {
-    match &read {
-        Ok(_) => None,
-        Err(error) => place_of(error.span?),
-    }
-}
-
-#[test]
-fn what_is_no_document_is_refused(rt: HostRuntime) {
-    let alloc = rt.alloc();
-    for &(input, lenient, with_comments, strict) in &REFUSED {
-        let bytes = input.as_bytes();
-        assert!(rt; refused(Document::parse(alloc, bytes)) == lenient);
-        assert!(rt; refused(Document::parse_jsonc(alloc, bytes)) == with_comments);
-        assert!(rt; refused(Document::parse_strict(alloc, bytes)) == strict);
-    }
+    };
+    assert!(rt; holds, "of {}", row.text);
 }
 
 /// The members of the object, by their names and numbers.
@@ -338,25 +292,20 @@ fn holds_items(value: &Value<'_, '_>) -> bool {
     index == ITEMS.len()
 }
 
-/// Whether the input is an object of these members alone.
-fn are_members(alloc: Global, input: &[u8]) -> bool {
-    match Document::parse(alloc, input) {
-        Ok(document) => holds_members(&document.root()) && document.root().items().is_none(),
-        Err(_) => false,
-    }
-}
-
-/// Whether the input is a list of these items alone.
-fn are_items(alloc: Global, input: &[u8]) -> bool {
-    match Document::parse(alloc, input) {
-        Ok(document) => holds_items(&document.root()) && document.root().members().is_none(),
-        Err(_) => false,
+#[test]
+fn values_are_found(rt: HostRuntime) {
+    let alloc = rt.alloc();
+    for row in &ROWS {
+        expect_row(&rt, alloc, row);
     }
 }
 
 #[test]
 fn what_is_held_comes_in_order(rt: HostRuntime) {
     let alloc = rt.alloc();
-    assert!(rt; are_members(alloc, b"{\"a\":1,\"b\":[2,{\"a\":3}],\"\\u0061\":4}"));
-    assert!(rt; are_items(alloc, b"[7,[8],9]"));
+    let object = b"{\"a\":1,\"b\":[2,{\"a\":3}],\"\\u0061\":4}";
+    let document = Document::parse(alloc, object).expect(&rt, "an object");
+    assert!(rt; holds_members(&document.root()) && document.root().items().is_none());
+    let document = Document::parse(alloc, b"[7,[8],9]").expect(&rt, "a list");
+    assert!(rt; holds_items(&document.root()) && document.root().members().is_none());
 }

@@ -4,6 +4,7 @@ use facet_format::DeserializeError;
 use facet_json::{Done, Maybe, Need, read_fields};
 use facet_json_parser::JsonParser;
 use std::alloc::Global;
+use std::process::Abort;
 
 /// Three fields, of which the second one's name begins as the first one's, and may be missing.
 type Three = Need<u8, Maybe<u8, Need<u8, Done>>>;
@@ -12,14 +13,6 @@ fn read_three<'t>(alloc: Global, input: &str) -> Result<Three, DeserializeError<
     let mut parser = JsonParser::new(alloc, input.as_bytes());
     let names = &["a", "ab", "seventeen_letters"];
     read_fields(alloc, &mut parser, false, names)
-}
-
-/// Whether the object is read as these fields.
-fn is_three(alloc: Global, input: &str, wanted: (u8, Option<u8>, u8)) -> bool {
-    match read_three(alloc, input) {
-        Ok(Need(a, Maybe(ab, Need(long, Done)))) => (a, ab, long) == wanted,
-        Err(_) => false,
-    }
 }
 
 /// Objects of these fields: in the order of the names and in others, with members between that no name fits, and of keys that go on, end
@@ -77,21 +70,6 @@ static THREE: [(&str, (u8, Option<u8>, u8)); 14] = [
     ),
 ];
 
-/// Whether the object is read as two fields of one name, of which the first has this number and the second none.
-fn is_first_of_two(alloc: Global, input: &str, number: u8) -> bool {
-    let mut parser = JsonParser::new(alloc, input.as_bytes());
-    let answer: Result<Need<u8, Maybe<u8, Done>>, DeserializeError<'_>> = read_fields(
-        alloc,
-        &mut parser,
-        false,
-        &["a", "a"],
-    );
-    match answer {
-        Ok(Need(first, Maybe(second, Done))) => first == number && second.is_none(),
-        Err(_) => false,
-    }
-}
-
 /// Objects, and the number of their last member `a`.
 static REPEATED: [(&str, u8); 4] = [
     ("{\"a\":1}", 1),
@@ -100,13 +78,32 @@ static REPEATED: [(&str, u8); 4] = [
     ("{\"\\u0061\":1,\"aa\":9,\"a\":4}", 4),
 ];
 
+/// Fails where the object is not read as these fields.
+fn expect_three(rt: &impl Abort, alloc: Global, input: &str, wanted: (u8, Option<u8>, u8)) {
+    let Need(a, Maybe(ab, Need(long, Done))) = read_three(alloc, input).expect(rt, input);
+    assert!(rt; (a, ab, long) == wanted, "of {input}");
+}
+
+/// Fails where the object is not read as two fields of one name, of which the first has this number and the second none.
+fn expect_first_of_two(rt: &impl Abort, alloc: Global, input: &str, number: u8) {
+    let mut parser = JsonParser::new(alloc, input.as_bytes());
+    let answer: Result<Need<u8, Maybe<u8, Done>>, DeserializeError<'_>> = read_fields(
+        alloc,
+        &mut parser,
+        false,
+        &["a", "a"],
+    );
+    let Need(first, Maybe(second, Done)) = answer.expect(rt, input);
+    assert!(rt; first == number && second.is_none(), "of {input}");
+}
+
 #[test]
 fn a_member_goes_to_the_field_of_its_name(rt: HostRuntime) {
     let alloc = rt.alloc();
     for &(input, wanted) in &THREE {
-        assert!(rt; is_three(alloc, input, wanted), "of {input}");
+        expect_three(&rt, alloc, input, wanted);
     }
     for &(input, number) in &REPEATED {
-        assert!(rt; is_first_of_two(alloc, input, number), "of {input}");
+        expect_first_of_two(&rt, alloc, input, number);
     }
 }

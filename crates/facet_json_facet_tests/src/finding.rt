@@ -6,9 +6,10 @@ use facet_json::steps::{begin_object, find_key};
 use facet_json_facet::Facet;
 use facet_json_parser::JsonParser;
 use std::alloc::Global;
+use std::process::Abort;
 
 /// The number that is the value of the first key of this text from here on, or none where no key has it.
-fn number_at<'t>(
+pub fn number_at<'t>(
     alloc: Global,
     parser: &mut JsonParser<'_>,
     name: &str,
@@ -20,32 +21,16 @@ fn number_at<'t>(
     }
 }
 
-/// Whether this was found.
-fn is_found(answer: Result<Option<u64>, DeserializeError<'_>>, wanted: Option<u64>) -> bool {
-    match answer {
-        Ok(found) => found == wanted,
-        Err(_) => false,
+/// Fails where this is not what is found in the object that is the input, from whose start on each key is searched behind the last one.
+fn expect_found(rt: &impl Abort, alloc: Global, input: &str, found: &[(&str, Option<u64>)]) {
+    let mut parser = JsonParser::new(alloc, input.as_bytes());
+    assert!(rt; begin_object(&mut parser).is_ok(), "of {input}");
+    for &(name, number) in found {
+        assert!(rt;
+            number_at(alloc, &mut parser, name) == Ok(number),
+            "{name} of {input}"
+        );
     }
-}
-
-/// Whether this number is found in the object that is the input.
-fn finds(alloc: Global, input: &str, name: &str, number: u64) -> bool {
-    let mut parser = JsonParser::new(alloc, input.as_bytes());
-    begin_object(&mut parser).is_ok() && is_found(number_at(alloc, &mut parser, name), Some(number))
-}
-
-/// Whether the object that is the input has no such key, and is passed whole.
-fn lacks(alloc: Global, input: &str, name: &str) -> bool {
-    let mut parser = JsonParser::new(alloc, input.as_bytes());
-    begin_object(&mut parser).is_ok()
-        && matches!(find_key(&mut parser, name), Ok(false))
-        && pass_end(&mut parser).is_ok()
-}
-
-/// Whether the search is refused.
-fn refuses(alloc: Global, input: &str, name: &str) -> bool {
-    let mut parser = JsonParser::new(alloc, input.as_bytes());
-    begin_object(&mut parser).is_ok() && find_key(&mut parser, name).is_err()
 }
 
 /// Inputs, keys, and the numbers that are found.
@@ -63,11 +48,20 @@ static FOUND: [(&str, &str, u64); 11] = [
     ("{\"a\":1", "a", 1),
 ];
 
+/// An object, and what is found in it one behind the other.
+const BOTH: &str = "{\"x\":[],\"a\":1,\"y\":{},\"b\":2,\"z\":null}";
+
 #[test]
 fn the_first_member_of_a_key_is_found(rt: HostRuntime) {
     for &(input, name, number) in &FOUND {
-        assert!(rt; finds(rt.alloc(), input, name, number), "of {input}");
+        expect_found(&rt, rt.alloc(), input, &[(name, Some(number))]);
     }
+    expect_found(
+        &rt,
+        rt.alloc(),
+        BOTH,
+        &[("a", Some(1)), ("b", Some(2)), ("a", None)],
+    );
 }
 
 /// Inputs, and keys that they have not.
@@ -93,26 +87,28 @@ static CUT: [(&str, &str); 6] = [
     ("{\"a\" 1,\"b\":2}", "b"),
 ];
 
+/// Fails where the object that is the input has such a key or is not passed whole, and where it is cut if the search is not refused.
+fn expect_lacking(rt: &impl Abort, alloc: Global, input: &str, name: &str, is_cut: bool) {
+    let mut parser = JsonParser::new(alloc, input.as_bytes());
+    assert!(rt; begin_object(&mut parser).is_ok(), "of {input}");
+    let found = find_key(&mut parser, name);
+    assert!(rt;
+        if is_cut {
+            found.is_err()
+        } else {
+            found == Ok(false)
+        },
+        "of {input}"
+    );
+    assert!(rt; is_cut || pass_end(&mut parser).is_ok(), "of {input}");
+}
+
 #[test]
 fn a_key_that_does_not_come_is_not_found(rt: HostRuntime) {
     for &(input, name) in &LACKING {
-        assert!(rt; lacks(rt.alloc(), input, name), "of {input}");
+        expect_lacking(&rt, rt.alloc(), input, name, false);
     }
     for &(input, name) in &CUT {
-        assert!(rt; refuses(rt.alloc(), input, name), "of {input}");
+        expect_lacking(&rt, rt.alloc(), input, name, true);
     }
-}
-
-/// Whether two searches find these numbers one after the other, and a third one finds the first key no more.
-fn finds_both(alloc: Global, input: &str) -> bool {
-    let mut parser = JsonParser::new(alloc, input.as_bytes());
-    begin_object(&mut parser).is_ok()
-        && is_found(number_at(alloc, &mut parser, "a"), Some(1))
-        && is_found(number_at(alloc, &mut parser, "b"), Some(2))
-        && is_found(number_at(alloc, &mut parser, "a"), None)
-}
-
-#[test]
-fn a_search_goes_on_behind_the_last_one(rt: HostRuntime) {
-    assert!(rt; finds_both(rt.alloc(), "{\"x\":[],\"a\":1,\"y\":{},\"b\":2,\"z\":null}"));
 }

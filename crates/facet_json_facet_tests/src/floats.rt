@@ -32,13 +32,6 @@ static NEAREST: [(&str, f64); 11] = [
     ("-1e400", f64::NEG_INFINITY),
 ];
 
-#[test]
-fn numbers_are_the_nearest_floats(rt: HostRuntime) {
-    for &(text, float) in &NEAREST {
-        assert!(rt; float_of(text) == Some(float), "{text}");
-    }
-}
-
 /// Floats, and the texts of their numbers.
 static SHORTEST: [(f64, &str); 6] = [
     (0.5, "0.5"),
@@ -50,15 +43,14 @@ static SHORTEST: [(f64, &str); 6] = [
 ];
 
 #[test]
-fn floats_are_the_shortest_numbers(rt: HostRuntime) {
+fn floats_and_numbers_are_each_others(rt: HostRuntime) {
+    for &(text, float) in &NEAREST {
+        assert!(rt; float_of(text) == Some(float), "{text}");
+    }
     for &(float, text) in &SHORTEST {
         assert!(rt; is_written(rt.alloc(), float, text), "{text}");
     }
-}
-
-#[test]
-fn what_is_not_finite_has_no_number(rt: HostRuntime) {
     for float in [f64::NAN, f64::INFINITY, f64::NEG_INFINITY] {
-        assert!(rt; matches!(from_f64(rt.alloc(), float), Ok(None)));
+        assert!(rt; matches!(from_f64(rt.alloc(), float), Ok(None)), "{float}");
     }
 }

@@ -1,17 +1,10 @@
 //! Texts laid out anew: worked rows, what is refused, and that a text laid out stays as it is.
 
-use crate::strict::{token, unexpected};
-use crate::typed::{is_told, refusal};
-use facet_format::{DeserializeErrorKind, Span};
+use crate::rows::{Case, Told, answer_of};
 use facet_json::scanner::Mode;
 use facet_json::{FormatOptions, Indent, format_text, format_text_strict};
 use std::alloc::{AllocError, Global};
-
-/// Whether the text is laid out so, and that stays as it is.
-fn is_laid_out(alloc: Global, text: &str, wanted: &str) -> bool {
-    is_formatted(alloc, text.as_bytes(), wanted.as_bytes())
-        && is_formatted(alloc, wanted.as_bytes(), wanted.as_bytes())
-}
+use std::process::Abort;
 
 /// Whether the text is laid out so.
 fn is_formatted(alloc: Global, text: &[u8], wanted: &[u8]) -> bool {
@@ -71,70 +64,64 @@ static AT_LINE_ENDS: [Row; 9] = [
     ("{\"a\": /* b */ 1}", "{\n  \"a\": /* b */ 1\n}\n"),
 ];
 
-/// The first row whose text is not laid out so.
-fn first_wrong(alloc: Global, rows: &[Row]) -> Option<usize> {
-    for (place, &(text, wanted)) in rows.iter().enumerate() {
-        if !is_laid_out(alloc, text, wanted) {
-            return Some(place);
-        }
+/// Fails where a text is not laid out so, or where that does not stay as it is.
+fn expect_laid_out(rt: &impl Abort, alloc: Global, rows: &[Row]) {
+    for &(text, wanted) in rows {
+        assert!(rt;
+            is_formatted(alloc, text.as_bytes(), wanted.as_bytes()),
+            "of {text}"
+        );
+        assert!(rt;
+            is_formatted(alloc, wanted.as_bytes(), wanted.as_bytes()),
+            "of {wanted}"
+        );
     }
-    None
+}
+
+/// Fails where the text is not indented so.
+fn expect_indented(rt: &impl Abort, alloc: Global, indent: Indent, wanted: &str) {
+    let options = FormatOptions { indent };
+    let found = format_text(alloc, b"[[1]]", Mode::Plain, options).expect(rt, wanted);
+    assert!(rt; found.as_slice() == wanted.as_bytes(), "{wanted}");
 }
 
 #[test]
 fn texts_are_laid_out(rt: HostRuntime) {
-    assert!(rt; first_wrong(rt.alloc(), &PLAIN) == None);
-    assert!(rt; first_wrong(rt.alloc(), &IN_OWN_LINES) == None);
-    assert!(rt; first_wrong(rt.alloc(), &AT_LINE_ENDS) == None);
-}
-
-/// Whether the text is indented so.
-fn is_indented(alloc: Global, indent: Indent, wanted: &[u8]) -> bool {
-    match format_text(alloc, b"[[1]]", Mode::Plain, FormatOptions { indent }) {
-        Ok(found) => found.as_slice() == wanted,
-        Err(_) => false,
-    }
-}
-
-#[test]
-fn the_indent_is_chosen(rt: HostRuntime) {
     let alloc = rt.alloc();
-    assert!(rt; is_indented(alloc, Indent::Tab, b"[\n\t[\n\t\t1\n\t]\n]\n"));
-    assert!(rt; is_indented(alloc, Indent::Spaces(0), b"[\n[\n1\n]\n]\n"));
-    assert!(rt; is_indented(alloc, Indent::Spaces(3), b"[\n   [\n      1\n   ]\n]\n"));
+    expect_laid_out(&rt, alloc, &PLAIN);
+    expect_laid_out(&rt, alloc, &IN_OWN_LINES);
+    expect_laid_out(&rt, alloc, &AT_LINE_ENDS);
+    expect_indented(&rt, alloc, Indent::Tab, "[\n\t[\n\t\t1\n\t]\n]\n");
+    expect_indented(&rt, alloc, Indent::Spaces(0), "[\n[\n1\n]\n]\n");
+    expect_indented(&rt, alloc, Indent::Spaces(3), "[\n   [\n      1\n   ]\n]\n");
 }
 
-/// Whether a text is refused so, where comments may not stand.
-fn refuses(alloc: Global, text: &[u8], kind: DeserializeErrorKind<'_>, span: Span) -> bool {
-    let answer = format_text(alloc, text, Mode::Plain, FormatOptions::new());
-    is_told(answer, refusal(kind, span))
-}
+/// What is refused where comments may not stand.
+static REFUSED: [Case<'static>; 4] = [
+    ("[1] 2", Told::Token("U64", "end of input"), 4, 1),
+    ("[1],", Told::Token("Comma", "end of input"), 3, 1),
+    ("[1] // a", Told::Byte('/'), 4, 1),
+    ("[1 x", Told::Byte('x'), 3, 1),
+];
 
-/// Whether a text is refused so, where RFC 8259 alone is read.
-fn refuses_strictly(
-    alloc: Global,
-    text: &[u8],
-    kind: DeserializeErrorKind<'_>,
-    span: Span,
-) -> bool {
-    let answer = format_text_strict(alloc, text, FormatOptions::new());
-    is_told(answer, refusal(kind, span))
-}
-
-/// The refusal of a token behind the document.
-fn behind(got: &'static str) -> DeserializeErrorKind<'static> {
-    token(got, "end of input")
-}
+/// What is refused where RFC 8259 alone is read.
+static REFUSED_STRICTLY: [Case<'static>; 2] = [
+    ("1 2", Told::Token("U64", "end of input"), 2, 1),
+    ("007", Told::Byte('?'), 0, 3),
+];
 
 #[test]
 fn what_is_no_document_alone_is_refused(rt: HostRuntime) {
     let alloc = rt.alloc();
-    assert!(rt; refuses(alloc, b"[1] 2", behind("U64"), Span::new(4, 1)));
-    assert!(rt; refuses(alloc, b"[1],", behind("Comma"), Span::new(3, 1)));
-    assert!(rt; refuses(alloc, b"[1] // a", unexpected('/'), Span::new(4, 1)));
-    assert!(rt; refuses(alloc, b"[1 x", unexpected('x'), Span::new(3, 1)));
-    assert!(rt; refuses_strictly(alloc, b"1 2", behind("U64"), Span::new(2, 1)));
-    assert!(rt; refuses_strictly(alloc, b"007", unexpected('?'), Span::new(0, 3)));
+    let options = FormatOptions::new();
+    for case in &REFUSED {
+        let refused = format_text(alloc, case.0.as_bytes(), Mode::Plain, options).err();
+        assert!(rt; refused == answer_of(case).err(), "of {}", case.0);
+    }
+    for case in &REFUSED_STRICTLY {
+        let refused = format_text_strict(alloc, case.0.as_bytes(), options).err();
+        assert!(rt; refused == answer_of(case).err(), "of {}", case.0);
+    }
 }
 
 // ---- texts that are laid out again
@@ -153,18 +140,7 @@ static GAPS: [&[u8]; 7] = [
     b"\n\n// a\n/**/",
 ];
 
-/// The document's text with one gap behind one of its tokens, and another behind another one.
-fn text_with(
-    alloc: Global,
-    first: (usize, &[u8]),
-    second: (usize, &[u8]),
-) -> Result<Vec<u8>, AllocError> {
-    let mut text = Vec::new(alloc);
-    push_tokens(&mut text, first, second)?;
-    Ok(text)
-}
-
-/// Appends it.
+/// Appends the document's text with one gap behind one of its tokens, and another behind another one.
 fn push_tokens(
     text: &mut Vec<u8>,
     first: (usize, &[u8]),
@@ -182,42 +158,34 @@ fn push_tokens(
     Ok(())
 }
 
-/// Whether a text that is laid out stays as it is.
-fn stays(alloc: Global, text: &[u8]) -> bool {
-    match format_text(alloc, text, Mode::Jsonc, FormatOptions::new()) {
-        Ok(once) => is_formatted(alloc, once.as_slice(), once.as_slice()),
-        Err(_) => false,
-    }
+/// Fails where the document with these gaps, laid out, does not stay as it is.
+fn expect_stays(rt: &impl Abort, alloc: Global, first: (usize, &[u8]), second: (usize, &[u8])) {
+    let mut text = Vec::new(alloc);
+    push_tokens(&mut text, first, second).expect(rt, "memory");
+    let options = FormatOptions::new();
+    let once = format_text(alloc, text.as_slice(), Mode::Jsonc, options).expect(rt, "a document");
+    assert!(rt;
+        is_formatted(alloc, once.as_slice(), once.as_slice()),
+        "behind tokens {} and {}",
+        first.0,
+        second.0
+    );
 }
 
-/// Whether the document with these gaps does.
-fn stays_with(alloc: Global, first: (usize, &[u8]), second: (usize, &[u8])) -> bool {
-    match text_with(alloc, first, second) {
-        Ok(text) => stays(alloc, text.as_slice()),
-        Err(_) => false,
-    }
-}
-
-/// Whether it does with each second gap.
-fn stays_with_each(alloc: Global, first: (usize, &[u8])) -> bool {
+/// The same with each second gap.
+fn expect_each_stays(rt: &impl Abort, alloc: Global, first: (usize, &[u8])) {
     for place in 0..TOKENS.len() {
         for gap in &GAPS {
-            if !stays_with(alloc, first, (place, gap)) {
-                return false;
-            }
+            expect_stays(rt, alloc, first, (place, gap));
         }
     }
-    true
 }
 
 #[test]
 fn what_is_laid_out_stays(rt: HostRuntime) {
     for place in 0..TOKENS.len() {
         for gap in &GAPS {
-            assert!(rt;
-                stays_with_each(rt.alloc(), (place, gap)),
-                "behind token {place}"
-            );
+            expect_each_stays(&rt, rt.alloc(), (place, gap));
         }
     }
 }

@@ -1,8 +1,10 @@
 //! Structs whose texts the input lends.
 
-use crate::typed::{refuses, writes};
-use facet_format::{DeserializeError, DeserializeErrorKind, Span};
-use facet_json::{Done, Need, from_str_borrowed, read_fields, write_fields};
+use crate::readers::By;
+use crate::rows::{Case, Told, expect};
+use crate::typed::expect_value;
+use facet_format::DeserializeError;
+use facet_json::{Done, Need, read_fields, write_fields};
 use facet_json_facet::Facet;
 use facet_json_parser::JsonParser;
 use facet_json_serializer::{JsonSerializeError, JsonSerializer};
@@ -10,7 +12,7 @@ use std::alloc::Global;
 
 /// A person, as `{"name":"Alice","age":30}`.
 #[derive(PartialEq, Drop)]
-struct Person<'de> {
+pub struct Person<'de> {
     name: &'de str,
     age: u32,
 }
@@ -103,18 +105,13 @@ impl<'de> Facet<'de> for Labelled<'de> {
     ghost laws = { labelled-laws };
 }
 
-/// Whether the text is read as this value, which is written as this text.
-fn is_lent<'de, T: Facet<'de> + PartialEq>(
-    alloc: Global,
-    text: &'de str,
-    value: &T,
-    written: &str,
-) -> bool {
-    match from_str_borrowed::<T>(alloc, text) {
-        Ok(read) => read == *value && writes(alloc, &read, written),
-        Err(_) => false,
-    }
-}
+/// What lends no person.
+static NO_PERSONS: [Case<'static>; 1] = [(
+    "{\"age\": 30, \"name\": \"Alice\"}",
+    Told::Invalid("a borrowed text needs an unescaped string"),
+    20,
+    7,
+)];
 
 #[test]
 fn texts_of_structs_are_lent(rt: HostRuntime) {
@@ -124,7 +121,9 @@ fn texts_of_structs_are_lent(rt: HostRuntime) {
         age: 30,
     };
     let text = "{\"name\": \"Alice\", \"age\": 30}";
-    assert!(rt; is_lent(alloc, text, &alice, "{\"name\":\"Alice\",\"age\":30}"));
+    let written = "{\"name\":\"Alice\",\"age\":30}";
+    expect_value(&rt, alloc, By::Borrowed, text, &alice, written);
+    expect::<Person<'static>>(&rt, alloc, By::Owned, &NO_PERSONS);
     let origin = Labelled {
         label: "origin",
         x: 0,
@@ -132,10 +131,5 @@ fn texts_of_structs_are_lent(rt: HostRuntime) {
     };
     let text = "{\"label\": \"origin\", \"x\": 0, \"y\": 0}";
     let written = "{\"label\":\"origin\",\"x\":0,\"y\":0}";
-    assert!(rt; is_lent(alloc, text, &origin, written));
-    let not_lent = DeserializeErrorKind::InvalidValue {
-        message: "a borrowed text needs an unescaped string",
-    };
-    let text = "{\"age\": 30, \"name\": \"Alice\"}";
-    assert!(rt; refuses::<Person<'static>>(alloc, text, not_lent, Span::new(20, 7)));
+    expect_value(&rt, alloc, By::Borrowed, text, &origin, written);
 }

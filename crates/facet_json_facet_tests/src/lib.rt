@@ -7,13 +7,9 @@ mod accounts;
 #[cfg(test)]
 mod allocations;
 #[cfg(test)]
-mod bounds;
-#[cfg(test)]
 mod checking;
 #[cfg(test)]
 mod containers;
-#[cfg(test)]
-mod cuts;
 #[cfg(test)]
 mod document_depths;
 #[cfg(test)]
@@ -53,7 +49,7 @@ mod own;
 #[cfg(test)]
 mod prefix;
 #[cfg(test)]
-mod raws;
+mod readers;
 #[cfg(test)]
 mod records;
 #[cfg(test)]
@@ -61,14 +57,12 @@ mod refusals;
 #[cfg(test)]
 mod rewriting;
 #[cfg(test)]
+mod rows;
+#[cfg(test)]
 mod strict;
 #[cfg(test)]
 mod texts;
 #[cfg(test)]
 mod told;
 #[cfg(test)]
-mod trees;
-#[cfg(test)]
 mod typed;
-#[cfg(test)]
-mod wide;

@@ -7,6 +7,7 @@ use facet_json_examples::log_filter::errors_in;
 use std::alloc::Global;
 use std::io;
 use std::io::{BufReader, ErrorKind, Read};
+use std::process::Abort;
 
 /// Gives its bytes a few at a time, and fails at one read, counted from 0.
 #[derive(Drop)]
@@ -70,10 +71,10 @@ static ROWS: [Row; 16] = [
 ];
 
 /// Whether a line that came, or the end, is the wanted one.
-fn is_line(line: Option<Line<'_>>, wanted: Option<Wanted<'_>>) -> bool {
+fn is_line(line: Option<Line<'_>>, wanted: Option<&Wanted<'_>>) -> bool {
     match (line, wanted) {
         (Some(line), Some((number, Some(text)))) => {
-            line.number == number && line.text == text.as_bytes()
+            line.number == *number && line.text == text.as_bytes()
         }
         (None, None) => true,
         _ => false,
@@ -81,11 +82,11 @@ fn is_line(line: Option<Line<'_>>, wanted: Option<Wanted<'_>>) -> bool {
 }
 
 /// Whether this line, or the end, was told; none where a failure was.
-fn is_told(came: Result<Option<Line<'_>>, LineError>, wanted: Option<Wanted<'_>>) -> Option<bool> {
+fn is_told(came: Result<Option<Line<'_>>, LineError>, wanted: Option<&Wanted<'_>>) -> Option<bool> {
     match came {
         Ok(line) => Some(is_line(line, wanted)),
         Err(LineError::TooLong { number }) => Some(
-            matches!(wanted, Some((at, None)) if at == number),
+            matches!(wanted, Some((at, None)) if *at == number),
         ),
         Err(LineError::Memory | LineError::Io(_)) => None,
     }
@@ -99,32 +100,23 @@ struct Way {
     kind: ErrorKind,
 }
 
-/// How often a failure was told before the end, which is asked for once more then; none where another line came.
-fn failures_at_end<R: Read>(lines: &mut Lines<BufReader<R>>) -> Option<usize> {
-    match is_told(lines.next_line(), None) {
-        Some(true) => Some(0),
-        None if is_told(lines.next_line(), None) == Some(true) => Some(1),
-        _ => None,
-    }
-}
-
 /// How often a failure was told where these lines came, and then the end; none where others came.
 fn failures_told<R: Read>(
     lines: &mut Lines<BufReader<R>>,
     expected: &[Wanted<'_>],
 ) -> Option<usize> {
     let mut failed: usize = 0;
-    for wanted in expected {
-        let mut is_right = is_told(lines.next_line(), Some(*wanted));
+    for at in 0..=expected.len() {
+        let mut is_right = is_told(lines.next_line(), expected.get(at));
         if is_right.is_none() {
             failed = failed.saturating_add(1);
-            is_right = is_told(lines.next_line(), Some(*wanted));
+            is_right = is_told(lines.next_line(), expected.get(at));
         }
         if is_right != Some(true) {
             return None;
         }
     }
-    Some(failed.saturating_add(failures_at_end(lines)?))
+    Some(failed)
 }
 
 /// The same of a row whose bytes come this way.
@@ -146,34 +138,23 @@ fn failures(alloc: Global, row: &Row, way: Way) -> Option<usize> {
     failures_told(&mut Lines::new(alloc, reader, row.1), row.2)
 }
 
-/// Whether the row's lines come through a buffer of this size, however many bytes a read gives.
-fn come(alloc: Global, row: &Row, buffer: usize) -> bool {
-    for longest in &[1, 3, 64] {
-        let way = Way {
-            buffer,
-            longest: *longest,
-            fails_at: usize::MAX,
-            kind: ErrorKind::Other,
-        };
-        if failures(alloc, row, way) != Some(0) {
-            return false;
-        }
-    }
-    true
+/// Fails where the row's lines don't come through a buffer of this size, with so many bytes a read.
+fn expect_lines(rt: &impl Abort, alloc: Global, row: &Row, buffer: usize, longest: usize) {
+    let way = Way {
+        buffer,
+        longest,
+        fails_at: usize::MAX,
+        kind: ErrorKind::Other,
+    };
+    assert!(rt;
+        failures(alloc, row, way) == Some(0),
+        "{} by {buffer} and {longest}",
+        row.0
+    );
 }
 
-#[test]
-fn lines_come_however_the_bytes_do(rt: HostRuntime) {
-    let alloc = rt.alloc();
-    for row in &ROWS {
-        for buffer in &[1, 2, 5, 64] {
-            assert!(rt; come(alloc, row, *buffer));
-        }
-    }
-}
-
-/// Whether so many failures of the row are told, where each read that gives a byte fails in turn.
-fn each_read_fails(alloc: Global, row: &Row, kind: ErrorKind, told: usize) -> bool {
+/// Fails where not so many failures of the row are told, where each read that gives a byte fails in turn.
+fn expect_failures(rt: &impl Abort, alloc: Global, row: &Row, kind: ErrorKind, told: usize) {
     for fails_at in 0..row.0.len() {
         let way = Way {
             buffer: 4,
@@ -181,31 +162,26 @@ fn each_read_fails(alloc: Global, row: &Row, kind: ErrorKind, told: usize) -> bo
             fails_at,
             kind,
         };
-        if failures(alloc, row, way) != Some(told) {
-            return false;
-        }
+        assert!(rt;
+            failures(alloc, row, way) == Some(told),
+            "{} at {fails_at}",
+            row.0
+        );
     }
-    true
 }
 
-/// Whether so many are told of each row.
-fn each_fails(alloc: Global, kind: ErrorKind, told: usize) -> bool {
+#[test]
+fn lines_come_however_the_bytes_do(rt: HostRuntime) {
+    let alloc = rt.alloc();
     for row in &ROWS {
-        if !each_read_fails(alloc, row, kind, told) {
-            return false;
+        for buffer in &[1, 2, 5, 64] {
+            expect_lines(&rt, alloc, row, *buffer, 1);
+            expect_lines(&rt, alloc, row, *buffer, 3);
+            expect_lines(&rt, alloc, row, *buffer, 64);
         }
+        expect_failures(&rt, alloc, row, ErrorKind::BrokenPipe, 1);
+        expect_failures(&rt, alloc, row, ErrorKind::Interrupted, 0);
     }
-    true
-}
-
-#[test]
-fn no_byte_is_lost_where_a_read_fails(rt: HostRuntime) {
-    assert!(rt; each_fails(rt.alloc(), ErrorKind::BrokenPipe, 1));
-}
-
-#[test]
-fn an_interrupted_read_is_tried_again(rt: HostRuntime) {
-    assert!(rt; each_fails(rt.alloc(), ErrorKind::Interrupted, 0));
 }
 
 /// Where a line is refused: its number, and the span on it.
@@ -242,39 +218,31 @@ static SUMS: [(&str, u64, Refused); 5] = [
     ("7\n1e\n", 7, Some((2, Some(Span { offset: 0, len: 2 })))),
 ];
 
-/// Whether the numbers of the input have this sum, and this line is the first that is refused.
-fn is_summed(alloc: Global, input: &str, sum: u64, refused: Refused) -> bool {
-    match summed(alloc, input.as_bytes()).ok() {
-        Some((total, first)) => total == sum && first == refused,
-        None => false,
-    }
+/// Fails where the next line is not this text, lent and owned.
+fn expect_next(rt: &impl Abort, alloc: Global, lines: &mut Lines<&[u8]>, text: &str) {
+    let line = lines.next_line().ok().expect(rt, text).expect(rt, text);
+    assert!(rt;
+        from_slice_borrowed::<&str>(alloc, line.text) == Ok(text),
+        "{text}"
+    );
+    assert!(rt; is_text(line.value::<String>(alloc), text), "{text}");
 }
+
+/// A log of which two records are of errors. The second line is no record, and the fourth is cut.
+const LOG: &str =
+    "{\"level\":\"error\"}\nstarted\n{\"level\":\"warning\"}\n{\"level\":\n{\"at\":[1],\"level\":\"error\",\"code\":7}";
 
 #[test]
-fn a_bad_line_does_not_end_the_reading(rt: HostRuntime) {
-    for (input, sum, refused) in &SUMS {
-        assert!(rt; is_summed(rt.alloc(), *input, *sum, *refused));
-    }
-}
-
-/// Whether the next line is this text, lent and owned.
-fn is_next(alloc: Global, lines: &mut Lines<&[u8]>, text: &str) -> bool {
-    match lines.next_line().ok() {
-        Some(Some(line)) => {
-            from_slice_borrowed::<&str>(alloc, line.text) == Ok(text)
-                && is_text(line.value::<String>(alloc), text)
-        }
-        _ => false,
-    }
-}
-
-#[test]
-fn a_value_may_borrow_of_its_line(rt: HostRuntime) {
+fn values_are_read_of_lines(rt: HostRuntime) {
     let alloc = rt.alloc();
-    let mut lines = Lines::new(alloc, "\"a\"\n\"b\" x".as_bytes(), 9);
-    for text in &["a", "b"] {
-        assert!(rt; is_next(alloc, &mut lines, *text));
+    for &(input, sum, refused) in &SUMS {
+        let read = summed(alloc, input.as_bytes()).ok();
+        assert!(rt; read == Some((sum, refused)), "of {input}");
     }
+    let mut lines = Lines::new(alloc, "\"a\"\n\"b\" x".as_bytes(), 9);
+    expect_next(&rt, alloc, &mut lines, "a");
+    expect_next(&rt, alloc, &mut lines, "b");
+    assert!(rt; errors_in(alloc, LOG.as_bytes()).ok() == Some(2));
 }
 
 /// Whether the refusal's message begins so, and is no longer where `is_whole` says so.
@@ -293,13 +261,4 @@ fn refusals_have_a_message(rt: HostRuntime) {
     assert!(rt; has_message(alloc, LineError::Memory, "out of memory", true));
     let failed = LineError::Io(io::Error::from(ErrorKind::BrokenPipe));
     assert!(rt; has_message(alloc, failed, "I/O error: ", false));
-}
-
-/// A log of which two records are of errors. The second line is no record, and the fourth is cut.
-const LOG: &str =
-    "{\"level\":\"error\"}\nstarted\n{\"level\":\"warning\"}\n{\"level\":\n{\"at\":[1],\"level\":\"error\",\"code\":7}";
-
-#[test]
-fn errors_of_a_log_are_counted(rt: HostRuntime) {
-    assert!(rt; errors_in(rt.alloc(), LOG.as_bytes()).ok() == Some(2));
 }

@@ -3,6 +3,7 @@
 use crate::document_pointers::is_of;
 use facet_json::{Tree, tree};
 use std::alloc::{AllocError, Global};
+use std::process::Abort;
 
 /// Whole numbers of each type with a sign.
 fn signed(alloc: Global) -> Result<Tree, AllocError> {
@@ -41,14 +42,6 @@ fn of_trees(alloc: Global, copied: &Tree) -> Result<Tree, AllocError> {
     })
 }
 
-/// Whether a tree is the one of this text.
-fn is_of_text(alloc: Global, made: Result<Tree, AllocError>, text: &str) -> bool {
-    match made {
-        Ok(made) => is_of(alloc, &made, text) == Some(true),
-        Err(_) => false,
-    }
-}
-
 /// The text of `of_literals`.
 const LITERALS: &str = r#"{"nothing":null,"truth":[true,false],"signed":[-1,2,-3,4,0]}"#;
 
@@ -58,13 +51,19 @@ const NAMES: &str = r#"{"name":"Ada","Ada":{"none":[],"empty":{}},"name":"twice"
 /// The text of `of_trees`.
 const TREES: &str = r#"{"ids":[1,2,3,4,5],"again":[1,2,3,4,5],"perhaps":[1,null,[null]]}"#;
 
+/// Fails where a tree is not the one of this text.
+fn expect_of(rt: &impl Abort, alloc: Global, made: Result<Tree, AllocError>, text: &str) {
+    let tree = made.expect(rt, "memory");
+    assert!(rt; is_of(alloc, &tree, text) == Some(true), "{text}");
+}
+
 #[test]
 fn trees_are_written_down(rt: HostRuntime) {
     let alloc = rt.alloc();
-    assert!(rt; is_of_text(alloc, of_literals(alloc), LITERALS));
-    assert!(rt; is_of_text(alloc, of_names(alloc, "Ada"), NAMES));
+    expect_of(&rt, alloc, of_literals(alloc), LITERALS);
+    expect_of(&rt, alloc, of_names(alloc, "Ada"), NAMES);
     let copied = ids(alloc).expect(&rt, "memory");
-    assert!(rt; is_of_text(alloc, of_trees(alloc, &copied), TREES));
-    assert!(rt; is_of_text(alloc, tree!(in alloc; 7u8), "7"));
-    assert!(rt; is_of_text(alloc, tree!(in alloc; null), "null"));
+    expect_of(&rt, alloc, of_trees(alloc, &copied), TREES);
+    expect_of(&rt, alloc, tree!(in alloc; 7u8), "7");
+    expect_of(&rt, alloc, tree!(in alloc; null), "null");
 }

@@ -6,7 +6,9 @@ ghost use Rattle.facet_format.specs.Views.{refusal_of, span_of};
 ghost use Rattle.facet_json_document.specs.Now.{current_span_of as last_read};
 ghost use Rattle.facet_json_core.specs.Refusing.{IsAbout};
 
-use crate::typed::{is_itself, is_told, out_of_range, refuses};
+use crate::readers::By;
+use crate::rows::{Case, Told, expect};
+use crate::typed::expect_value;
 use facet_format::{DeserializeError, DeserializeErrorKind, FormatParser, Span};
 use facet_json_facet::Facet;
 use facet_json_parser::JsonParser;
@@ -113,25 +115,21 @@ fn last_span(parser: &JsonParser<'_>) -> Span
     parser.current_span().unwrap()
 }
 
-#[test]
-fn a_type_of_ones_own_is_read_and_written(rt: HostRuntime) {
-    let alloc = rt.alloc();
-    assert!(rt; is_itself(alloc, "-40", Named(-40_i16)));
-    assert!(rt; refuses::<Named<i16>>(alloc, "40000", out_of_range("i16"), Span::new(0, 5)));
-}
+/// What is no number of 16 bits.
+static NO_NAMED: [Case<'static>; 1] = [("40000", Told::Range("i16"), 0, 5)];
 
-/// Whether the input is refused as too much.
-fn is_too_much(alloc: Global, input: &str) -> bool {
-    let mut parser = JsonParser::new(alloc, input.as_bytes());
-    let answer = Percent::read_owned(alloc, &mut parser);
-    is_told(answer, too_much(Span::new(1, 3)))
-}
+/// What is no number from 0 to 100.
+static NO_PERCENTS: [Case<'static>; 2] = [
+    (" 101", Told::Invalid("more than 100 percent"), 1, 3),
+    ("256", Told::Range("u8"), 0, 3),
+];
 
 #[test]
-fn a_type_of_ones_own_may_have_bounds(rt: HostRuntime) {
+fn types_of_ones_own_are_read_and_written(rt: HostRuntime) {
     let alloc = rt.alloc();
-    assert!(rt; is_itself(alloc, "100", Percent(100)));
-    assert!(rt; is_itself(alloc, "0", Percent(0)));
-    assert!(rt; is_too_much(alloc, " 101"));
-    assert!(rt; refuses::<Percent>(alloc, "256", out_of_range("u8"), Span::new(0, 3)));
+    expect_value(&rt, alloc, By::Each, "-40", &Named(-40_i16), "-40");
+    expect::<Named<i16>>(&rt, alloc, By::Each, &NO_NAMED);
+    expect_value(&rt, alloc, By::Each, "100", &Percent(100), "100");
+    expect_value(&rt, alloc, By::Each, "0", &Percent(0), "0");
+    expect::<Percent>(&rt, alloc, By::Each, &NO_PERCENTS);
 }

@@ -1,8 +1,11 @@
 //! Values with where their documents end, and documents one after another.
 
-use facet_format::{DeserializeError, DeserializeErrorKind, Span};
+use crate::readers::By;
+use crate::rows::{Case, Told, expect};
+use facet_format::Span;
 use facet_json::{Documents, from_slice_prefix, from_str_prefix};
 use std::alloc::Global;
+use std::process::Abort;
 
 /// Inputs that begin with a number, the number, and the offset at which it ends.
 static NUMBERS: [(&str, u8, usize); 7] = [
@@ -21,14 +24,6 @@ fn is_read(alloc: Global, input: &str, number: u8, end: usize) -> bool {
         && from_str_prefix(alloc, input) == Ok((number, end))
 }
 
-#[test]
-fn numbers_end_where_their_digits_do(rt: HostRuntime) {
-    let alloc = rt.alloc();
-    for &(input, number, end) in &NUMBERS {
-        assert!(rt; is_read(alloc, input, number, end));
-    }
-}
-
 /// Lists, and the offset after their bracket.
 static LISTS: [(&str, usize); 5] = [
     ("[]", 2),
@@ -44,56 +39,35 @@ fn list_end(alloc: Global, input: &str) -> Option<usize> {
     Some(end)
 }
 
-#[test]
-fn lists_end_after_their_bracket(rt: HostRuntime) {
-    let alloc = rt.alloc();
-    for &(input, end) in &LISTS {
-        assert!(rt; list_end(alloc, input) == Some(end));
-    }
-}
-
-/// Appends the text with which the input begins. What is answered is where it ends.
-fn push_first(alloc: Global, input: &[u8], texts: &mut String) -> Option<usize> {
-    let (text, end) = from_slice_prefix::<String>(alloc, input).ok()?;
-    texts.push_str(text.as_str()).ok()?;
-    Some(end)
-}
-
-/// Appends the four texts that stand one after another. What is answered is whether nothing stands behind them.
-fn push_four(alloc: Global, input: &str, texts: &mut String) -> Option<bool> {
+/// Fails where four texts, which are these behind one another, don't stand one after another.
+fn expect_four(rt: &impl Abort, alloc: Global, input: &str, wanted: &str) {
+    let mut texts = String::new(alloc);
     let mut left = input.as_bytes();
     for _ in 0..4 {
-        left = left.get(push_first(alloc, left, texts)?..)?;
+        let (text, end) = from_slice_prefix::<String>(alloc, left).expect(rt, "a text");
+        texts.push_str(text.as_str()).expect(rt, "memory");
+        left = left.get(end..).expect(rt, "an end within the input");
     }
-    Some(left.is_empty())
+    assert!(rt; left.is_empty() && texts.as_str() == wanted, "{texts}");
 }
+
+/// What begins no number.
+static NO_NUMBERS: [Case<'static>; 3] = [
+    ("", Told::End("value"), 0, 0),
+    (" ", Told::End("value"), 1, 0),
+    ("300 1", Told::Range("u8"), 0, 3),
+];
 
 #[test]
-fn documents_stand_one_after_another(rt: HostRuntime) {
-    let mut texts = String::new(rt.alloc());
-    let input = "\"a\"\"\" \"b\\u0063\"\n\"d\"";
-    assert!(rt; push_four(rt.alloc(), input, &mut texts) == Some(true));
-    assert!(rt; texts.as_str() == "abcd");
-}
-
-/// Whether both forms refuse the input so.
-fn is_refused(alloc: Global, input: &str, kind: DeserializeErrorKind<'_>, span: Span) -> bool {
-    let refusal = DeserializeError {
-        kind,
-        span: Some(span),
-    };
-    from_slice_prefix::<u8>(alloc, input.as_bytes()) == Err(refusal)
-        && from_str_prefix::<u8>(alloc, input) == Err(refusal)
-}
-
-#[test]
-fn what_begins_no_value_is_refused(rt: HostRuntime) {
+fn values_end_where_they_do(rt: HostRuntime) {
     let alloc = rt.alloc();
-    let none = DeserializeErrorKind::UnexpectedEof { expected: "value" };
-    assert!(rt; is_refused(alloc, "", none, Span::new(0, 0)));
-    assert!(rt; is_refused(alloc, " ", none, Span::new(1, 0)));
-    let large = DeserializeErrorKind::NumberOutOfRange { target_type: "u8" };
-    assert!(rt; is_refused(alloc, "300 1", large, Span::new(0, 3)));
+    for &(input, number, end) in &NUMBERS {
+        assert!(rt; is_read(alloc, input, number, end), "of {input}");
+    }
+    for &(input, end) in &LISTS {
+        assert!(rt; list_end(alloc, input) == Some(end), "of {input}");
+    }
+    expect::<u8>(&rt, alloc, By::Lenient, &NO_NUMBERS);
 }
 
 /// Inputs of numbers one after another: their sum, how many there are before a refusal or the end, the offset up to which the input was read
@@ -134,9 +108,10 @@ fn is_summed(alloc: Global, row: &(&str, u64, usize, usize, Option<Span>)) -> bo
 }
 
 #[test]
-fn numbers_come_until_one_is_refused(rt: HostRuntime) {
+fn documents_stand_one_after_another(rt: HostRuntime) {
     let alloc = rt.alloc();
     for row in &STREAMS {
-        assert!(rt; is_summed(alloc, row));
+        assert!(rt; is_summed(alloc, row), "of {}", row.0);
     }
+    expect_four(&rt, alloc, "\"a\"\"\" \"b\\u0063\"\n\"d\"", "abcd");
 }

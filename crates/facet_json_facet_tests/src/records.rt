@@ -1,6 +1,6 @@
-//! Structs: they are read from objects by a table of their fields, and written call by call.
+//! Structs of two fields: they are read from objects by a table of their fields, and written call by call.
 
-use crate::typed::{is_told, is_written, refusal};
+use crate::typed::{is_written, refusal};
 use facet_format::{DeserializeError, DeserializeErrorKind, FormatSerializer, Span};
 use facet_json::{Done, Need, read_fields};
 use facet_json_core::RawJson;
@@ -8,144 +8,73 @@ use facet_json_facet::Facet;
 use facet_json_parser::JsonParser;
 use facet_json_serializer::{JsonSerializeError, JsonSerializer};
 use std::alloc::Global;
+use std::process::Abort;
 
-/// A person, as `{"name":"Alice","age":30}`. The name may be borrowed.
-#[derive(Drop)]
-struct Person<N> {
-    name: N,
-    age: u32,
-}
+/// Two fields.
+type Pair<A, B> = Need<A, Need<B, Done>>;
 
-/// Reads a person, whose name may borrow of the input where `borrows` says so.
-fn read_person<'t, 'de, N: Facet<'de>>(
-    alloc: Global,
-    input: &'de str,
-    borrows: bool,
-) -> Result<Person<N>, DeserializeError<'t>> {
-    let mut parser = JsonParser::new(alloc, input.as_bytes());
-    let Need(name, Need(age, Done)) = read_fields(alloc, &mut parser, borrows, &["name", "age"])?;
-    Ok(Person { name, age })
-}
-
-/// Writes a person.
-fn write_person(
-    serializer: &mut JsonSerializer<'_>,
-    person: &Person<&str>,
-) -> Result<(), JsonSerializeError> {
-    serializer.begin_struct()?;
-    serializer.field_key("name")?;
-    person.name.write(serializer)?;
-    serializer.field_key("age")?;
-    person.age.write(serializer)?;
-    serializer.end_struct()
-}
-
-/// The text of a person.
-fn text_of_person(alloc: Global, person: &Person<&str>) -> Result<Vec<u8>, JsonSerializeError> {
-    let mut serializer = JsonSerializer::new(alloc);
-    write_person(&mut serializer, person)?;
-    serializer.finish()
-}
+/// A person, as `{"name":"Alice","age":30}`.
+static PERSON: [&str; 2] = ["name", "age"];
 
 /// A point, as `{"x":10,"y":20}`.
-#[derive(Drop)]
-struct Point {
-    x: i32,
-    y: i32,
-}
-
-fn read_point<'t>(alloc: Global, input: &str) -> Result<Point, DeserializeError<'t>> {
-    let mut parser = JsonParser::new(alloc, input.as_bytes());
-    let Need(x, Need(y, Done)) = read_fields(alloc, &mut parser, false, &["x", "y"])?;
-    Ok(Point { x, y })
-}
-
-/// Writes a point.
-fn write_point(
-    serializer: &mut JsonSerializer<'_>,
-    point: &Point,
-) -> Result<(), JsonSerializeError> {
-    serializer.begin_struct()?;
-    serializer.field_key("x")?;
-    point.x.write(serializer)?;
-    serializer.field_key("y")?;
-    point.y.write(serializer)?;
-    serializer.end_struct()
-}
-
-/// The text of a point.
-fn text_of_point(alloc: Global, point: &Point) -> Result<Vec<u8>, JsonSerializeError> {
-    let mut serializer = JsonSerializer::new(alloc);
-    write_point(&mut serializer, point)?;
-    serializer.finish()
-}
+static POINT: [&str; 2] = ["x", "y"];
 
 /// A response, as `{"status":200,"data":[]}`: whatever stands under `data` stays as it stands there.
-#[derive(Drop)]
-struct Response<'de> {
-    status: u32,
-    payload: RawJson<'de>,
-}
+static RESPONSE: [&str; 2] = ["status", "data"];
 
-fn read_response<'t, 'de>(
+/// Reads two fields, which may borrow of the input where `borrows` says so.
+fn read_pair<'t, 'de, A: Facet<'de>, B: Facet<'de>>(
     alloc: Global,
+    names: &'t [&'t str],
     input: &'de str,
-) -> Result<Response<'de>, DeserializeError<'t>> {
+    borrows: bool,
+) -> Result<Pair<A, B>, DeserializeError<'t>> {
     let mut parser = JsonParser::new(alloc, input.as_bytes());
-    let Need(status, Need(payload, Done)) = read_fields(
-        alloc,
-        &mut parser,
-        true,
-        &["status", "data"],
-    )?;
-    Ok(Response { status, payload })
+    read_fields(alloc, &mut parser, borrows, names)
 }
 
-/// Writes a response.
-fn write_response(
+/// Whether these two were read.
+fn is_pair<A: PartialEq, B: PartialEq>(
+    answer: &Result<Pair<A, B>, DeserializeError<'_>>,
+    first: &A,
+    second: &B,
+) -> bool {
+    match answer {
+        Ok(Need(a, Need(b, Done))) => *a == *first && *b == *second,
+        Err(_) => false,
+    }
+}
+
+/// Writes two fields.
+fn write_pair<'de, A: Facet<'de>, B: Facet<'de>>(
     serializer: &mut JsonSerializer<'_>,
-    response: &Response<'_>,
+    names: &[&str; 2],
+    first: &A,
+    second: &B,
 ) -> Result<(), JsonSerializeError> {
     serializer.begin_struct()?;
-    serializer.field_key("status")?;
-    response.status.write(serializer)?;
-    serializer.field_key("data")?;
-    response.payload.write(serializer)?;
+    serializer.field_key(names[0])?;
+    first.write(serializer)?;
+    serializer.field_key(names[1])?;
+    second.write(serializer)?;
     serializer.end_struct()
 }
 
-/// The text of a response.
-fn text_of_response(alloc: Global, response: &Response<'_>) -> Result<Vec<u8>, JsonSerializeError> {
+/// Fails where two fields are not written as this text.
+fn expect_written<'de, A: Facet<'de>, B: Facet<'de>>(
+    rt: &impl Abort,
+    alloc: Global,
+    names: &[&str; 2],
+    fields: (&A, &B),
+    text: &str,
+) {
     let mut serializer = JsonSerializer::new(alloc);
-    write_response(&mut serializer, response)?;
-    serializer.finish()
-}
-
-/// Whether an object without this field was refused at its closing bracket, which is at this byte.
-fn misses<T: Drop>(answer: Result<T, DeserializeError<'_>>, field: &str, bracket: usize) -> bool {
-    let kind = DeserializeErrorKind::MissingField { field };
-    is_told(answer, refusal(kind, Span::new(bracket, 1)))
-}
-
-/// Whether the object is read as this person, with a name of its own.
-fn owns_name(alloc: Global, input: &str, name: &str, age: u32) -> bool {
-    match read_person::<String>(alloc, input, false) {
-        Ok(person) => person.name.as_str() == name && person.age == age,
-        Err(_) => false,
-    }
-}
-
-/// The same with a borrowed one.
-fn lends_name(alloc: Global, input: &str, name: &str, age: u32) -> bool {
-    match read_person::<&str>(alloc, input, true) {
-        Ok(person) => person.name == name && person.age == age,
-        Err(_) => false,
-    }
-}
-
-/// Whether the object is read as this person, with a name of its own and with a borrowed one.
-fn is_person(alloc: Global, input: &str, name: &str, age: u32) -> bool {
-    owns_name(alloc, input, name, age) && lends_name(alloc, input, name, age)
+    let written = write_pair(&mut serializer, names, fields.0, fields.1);
+    assert!(rt; written.is_ok(), "{text}");
+    assert!(rt;
+        is_written(serializer.finish(), text) == Some(true),
+        "{text}"
+    );
 }
 
 /// Objects that are read as a person, with the name and the age.
@@ -169,22 +98,13 @@ static PERSONS: [(&str, &str, u32); 5] = [
     ("{\"n\\u0061me\":\"A\",\"age\":4294967295}", "A", 4294967295),
 ];
 
-#[test]
-fn persons_are_read_and_written(rt: HostRuntime) {
-    let alloc = rt.alloc();
-    for (input, name, age) in &PERSONS {
-        assert!(rt; is_person(alloc, *input, *name, *age));
-    }
-    let alice = Person {
-        name: "Alice",
-        age: 30,
-    };
-    assert!(rt;
-        is_written(
-            text_of_person(alloc, &alice),
-            "{\"name\":\"Alice\",\"age\":30}"
-        ) == Some(true)
-    );
+/// Fails where the object is not read as this person, with a name of its own and with a borrowed one.
+fn expect_person(rt: &impl Abort, alloc: Global, input: &str, name: &str, age: u32) {
+    let lent = read_pair::<&str, u32>(alloc, &PERSON, input, true);
+    assert!(rt; is_pair(&lent, &name, &age), "of {input}");
+    let name = String::from_str(alloc, name).expect(rt, "memory");
+    let owned = read_pair::<String, u32>(alloc, &PERSON, input, false);
+    assert!(rt; is_pair(&owned, &name, &age), "of {input}");
 }
 
 /// Objects that lack a field of a person: the first one that they lack, and where they end.
@@ -195,60 +115,54 @@ static LACKING: [(&str, &str, usize); 4] = [
     (" {\"Name\":\"Alice\",\"ag\":{} }", "name", 25),
 ];
 
-/// Whether the object lacks this field of a person, with a name of its own and with a borrowed one.
-fn is_no_person(alloc: Global, input: &str, field: &str, bracket: usize) -> bool {
-    misses(read_person::<String>(alloc, input, false), field, bracket)
-        && misses(read_person::<&str>(alloc, input, true), field, bracket)
+/// The refusal of an object without this field at its closing bracket, which is at this byte.
+fn missing<'t>(field: &'t str, bracket: usize) -> Option<DeserializeError<'t>> {
+    let kind = DeserializeErrorKind::MissingField { field };
+    Some(refusal(kind, Span::new(bracket, 1)))
 }
 
 #[test]
-fn the_first_missing_field_is_named(rt: HostRuntime) {
+fn persons_are_read_and_written(rt: HostRuntime) {
     let alloc = rt.alloc();
-    for (input, field, bracket) in &LACKING {
-        assert!(rt; is_no_person(alloc, *input, *field, *bracket));
+    for &(input, name, age) in &PERSONS {
+        expect_person(&rt, alloc, input, name, age);
     }
-    assert!(rt; misses(read_response(alloc, "{\"status\":200 }"), "data", 14));
+    expect_written(
+        &rt,
+        alloc,
+        &PERSON,
+        (&"Alice", &30_u32),
+        "{\"name\":\"Alice\",\"age\":30}",
+    );
+    for &(input, field, bracket) in &LACKING {
+        let owned = read_pair::<String, u32>(alloc, &PERSON, input, false).err();
+        assert!(rt; owned == missing(field, bracket), "of {input}");
+        let lent = read_pair::<&str, u32>(alloc, &PERSON, input, true).err();
+        assert!(rt; lent == missing(field, bracket), "of {input}");
+    }
 }
 
-/// Whether the object is read as this point.
-fn is_point(alloc: Global, input: &str, wanted: &Point) -> bool {
-    match read_point(alloc, input) {
-        Ok(point) => point.x == wanted.x && point.y == wanted.y,
-        Err(_) => false,
-    }
-}
+/// What a response holds.
+const PAYLOAD: &str = "{\"nested\": [1, 2, 3], \"complex\": true}";
 
 #[test]
-fn points_are_read_and_written(rt: HostRuntime) {
+fn points_and_responses_are_read_and_written(rt: HostRuntime) {
     let alloc = rt.alloc();
-    let point = Point { x: 10, y: 20 };
-    assert!(rt; is_point(alloc, "{\"x\": 10, \"y\": 20}", &point));
-    assert!(rt; is_written(text_of_point(alloc, &point), "{\"x\":10,\"y\":20}") == Some(true));
-}
-
-/// Whether the object is read as this response.
-fn is_response(alloc: Global, input: &str, status: u32, payload: &str) -> bool {
-    match read_response(alloc, input) {
-        Ok(response) => response.status == status && response.payload.as_str() == payload,
-        Err(_) => false,
-    }
-}
-
-/// Whether the response is written as this text.
-fn is_text_of(alloc: Global, status: u32, payload: &str, text: &str) -> bool {
-    let response = Response {
-        status,
-        payload: RawJson::new(payload),
-    };
-    is_written(text_of_response(alloc, &response), text) == Some(true)
-}
-
-#[test]
-fn responses_are_read_and_written(rt: HostRuntime) {
-    let alloc = rt.alloc();
-    let payload = "{\"nested\": [1, 2, 3], \"complex\": true}";
-    let text = "{\"status\":200,\"data\":{\"nested\": [1, 2, 3], \"complex\": true}}";
-    assert!(rt; is_text_of(alloc, 200, payload, text));
+    let point = read_pair::<i32, i32>(alloc, &POINT, "{\"x\": 10, \"y\": 20}", false);
+    assert!(rt; is_pair(&point, &10, &20));
+    expect_written(
+        &rt,
+        alloc,
+        &POINT,
+        (&10_i32, &20_i32),
+        "{\"x\":10,\"y\":20}",
+    );
+    let payload = RawJson::new(PAYLOAD);
     let input = "{\"status\": 200, \"data\": {\"nested\": [1, 2, 3], \"complex\": true}}";
-    assert!(rt; is_response(alloc, input, 200, payload));
+    let response = read_pair::<u32, RawJson<'static>>(alloc, &RESPONSE, input, true);
+    assert!(rt; is_pair(&response, &200, &payload));
+    let text = "{\"status\":200,\"data\":{\"nested\": [1, 2, 3], \"complex\": true}}";
+    expect_written(&rt, alloc, &RESPONSE, (&200_u32, &payload), text);
+    let lacking = read_pair::<u32, RawJson<'static>>(alloc, &RESPONSE, "{\"status\":200 }", true);
+    assert!(rt; lacking.err() == missing("data", 14));
 }

@@ -1,27 +1,77 @@
 //! What is no value of a type: each type refuses every other event by its own name and the event's, and the parser goes on after it.
 
-use crate::typed::{is_passed, is_told, mismatch, refusal};
+use crate::typed::{is_passed, is_told, refusal};
 use facet_format::{DeserializeError, DeserializeErrorKind, FormatParser, Span};
 use facet_json_facet::Facet;
 use facet_json_parser::JsonParser;
 use facet_json_tree::Tree;
 use std::alloc::Global;
 use std::collections::BTreeMap;
+use std::process::Abort;
 
-/// Whether the parser stands before the value: at once where it is the first, and else after an event.
-fn stands(parser: &mut JsonParser<'_>, is_first: bool) -> bool {
-    is_first || is_passed(parser.next_event())
+/// What is passed before a value is read.
+enum Before {
+    /// Nothing.
+    Nothing,
+    /// An event.
+    Event,
+    /// A value, by `skip_value`.
+    Value,
 }
 
-/// Whether a value there is refused so, where it may borrow or may not, and the parser goes on after it.
-fn refuses_there<'de, T: Facet<'de>>(
+use Before::{Event, Nothing, Value};
+
+/// An input, what is passed of it, the name of the event that stands there, or none where none comes any more, its offset and its length.
+type Row<'s> = (&'s str, Before, &'s str, usize, usize);
+
+/// Inputs that hold an event of each kind, and inputs behind whose document no value stands.
+static EVENTS: [Row<'static>; 14] = [
+    ("null", Nothing, "null", 0, 4),
+    ("true", Nothing, "bool", 0, 4),
+    ("7", Nothing, "integer", 0, 1),
+    ("1.5", Nothing, "decimal", 0, 3),
+    ("\"x\"", Nothing, "string", 0, 3),
+    ("18446744073709551616", Nothing, "string", 0, 20),
+    ("-9223372036854775809", Nothing, "string", 0, 20),
+    ("{}", Nothing, "object", 0, 1),
+    ("[]", Nothing, "array", 0, 1),
+    ("{\"k\":1}", Event, "key", 1, 3),
+    ("{ }", Event, "end", 2, 1),
+    ("[ ]", Event, "end", 2, 1),
+    (" 1 2", Event, "", 2, 0),
+    (" [1] 2", Value, "", 4, 0),
+];
+
+/// How a type of this name refuses an event of that name, or the end.
+fn kind_of<'s>(name: &'s str, got: &'s str) -> DeserializeErrorKind<'s> {
+    if got.is_empty() {
+        DeserializeErrorKind::UnexpectedEof { expected: "value" }
+    } else {
+        DeserializeErrorKind::TypeMismatch {
+            expected: name,
+            got,
+        }
+    }
+}
+
+/// Whether that is passed.
+fn passes(parser: &mut JsonParser<'_>, before: &Before) -> bool {
+    match before {
+        Nothing => true,
+        Event => is_passed(parser.next_event()),
+        Value => parser.skip_value().is_ok(),
+    }
+}
+
+/// Whether a value behind that is refused so, where it may borrow or may not, and the parser goes on after it.
+fn refuses<'de, T: Facet<'de>>(
     alloc: Global,
     parser: &mut JsonParser<'de>,
-    error: DeserializeError<'de>,
-    is_first: bool,
+    before: &Before,
     borrows: bool,
+    error: DeserializeError<'de>,
 ) -> bool {
-    if !stands(parser, is_first) {
+    if !passes(parser, before) {
         return false;
     }
     let answer = if borrows {
@@ -32,166 +82,83 @@ fn refuses_there<'de, T: Facet<'de>>(
     is_told(answer, error) && is_passed(parser.next_event())
 }
 
-/// Whether a value there is refused so, borrowed or not, and the parser goes on after it.
+/// Whether it is refused so of a new parser.
 fn is_refused<'de, T: Facet<'de>>(
     alloc: Global,
     input: &'de str,
+    before: &Before,
+    borrows: bool,
     error: DeserializeError<'de>,
-    is_first: bool,
 ) -> bool {
-    let bytes = input.as_bytes();
-    refuses_there::<T>(
-        alloc,
-        &mut JsonParser::new(alloc, bytes),
-        error,
-        is_first,
-        false,
-    ) && refuses_there::<T>(
-        alloc,
-        &mut JsonParser::new(alloc, bytes),
-        error,
-        is_first,
-        true,
-    )
+    let mut parser = JsonParser::new(alloc, input.as_bytes());
+    refuses::<T>(alloc, &mut parser, before, borrows, error)
 }
 
-/// Whether the type takes the input, or refuses its event of this name and span: the first event, or the second where it is not at the start.
-fn refuses_event<'de, T: Facet<'de>>(
+/// Fails where the type of this name doesn't refuse an event of each kind, but for those of the inputs that it takes.
+fn expect_called<'de, T: Facet<'de>>(
+    rt: &impl Abort,
     alloc: Global,
-    expected: &'de str,
+    name: &'de str,
     taken: &[&'de str],
-    input: &'de str,
-    got: &'de str,
-    span: Span,
-) -> bool {
-    let error = refusal(mismatch(expected, got), span);
-    taken.contains(&input) || is_refused::<T>(alloc, input, error, span.offset == 0)
-}
-
-/// Inputs that hold an event of each kind, the event's name, its offset and its length.
-static EVENTS: [(&str, &str, usize, usize); 12] = [
-    ("null", "null", 0, 4),
-    ("true", "bool", 0, 4),
-    ("7", "integer", 0, 1),
-    ("1.5", "decimal", 0, 3),
-    ("\"x\"", "string", 0, 3),
-    ("18446744073709551616", "string", 0, 20),
-    ("-9223372036854775809", "string", 0, 20),
-    ("{}", "object", 0, 1),
-    ("[]", "array", 0, 1),
-    ("{\"k\":1}", "key", 1, 3),
-    ("{ }", "end", 2, 1),
-    ("[ ]", "end", 2, 1),
-];
-
-/// Whether the type refuses an event of each kind by this name, but for those of the inputs that it takes.
-fn refuses_others<'de, T: Facet<'de>>(
-    alloc: Global,
-    expected: &'de str,
-    taken: &[&'de str],
-) -> bool {
-    for &(input, got, offset, len) in &EVENTS {
-        let span = Span::new(offset, len);
-        if !refuses_event::<T>(alloc, expected, taken, input, got, span) {
-            return false;
+) {
+    for (input, before, got, offset, len) in &EVENTS {
+        if !taken.contains(input) {
+            let error = refusal(kind_of(name, *got), Span::new(*offset, *len));
+            let owned = is_refused::<T>(alloc, *input, before, false, error);
+            let lent = is_refused::<T>(alloc, *input, before, true, error);
+            assert!(rt; owned && lent, "{name} of {input}");
         }
     }
-    true
-}
-
-/// The refusal where no value comes any more.
-fn no_value<'t>(end: usize) -> DeserializeError<'t> {
-    let kind = DeserializeErrorKind::UnexpectedEof { expected: "value" };
-    refusal(kind, Span::new(end, 0))
-}
-
-/// Whether no value of the type stands after the document.
-fn owns_nothing_more<'de, T: Facet<'de>>(alloc: Global, parser: &mut JsonParser<'de>) -> bool {
-    is_passed(parser.next_event()) && is_told(T::read_owned(alloc, parser), no_value(2))
-}
-
-/// The same where it may be borrowed.
-fn borrows_nothing_more<'de, T: Facet<'de>>(alloc: Global, parser: &mut JsonParser<'de>) -> bool {
-    parser.skip_value().is_ok() && is_told(T::read(alloc, parser), no_value(4))
-}
-
-/// Whether no value of the type stands after the document, borrowed or not.
-fn reads_nothing_more<'de, T: Facet<'de>>(alloc: Global) -> bool {
-    let owned = owns_nothing_more::<T>(alloc, &mut JsonParser::new(alloc, b" 1 2"));
-    let borrowed = borrows_nothing_more::<T>(alloc, &mut JsonParser::new(alloc, b" [1] 2"));
-    owned && borrowed
-}
-
-/// Whether the type is called so where another value stands, and where none does.
-fn is_called<'de, T: Facet<'de>>(alloc: Global, name: &'de str, taken: &[&'de str]) -> bool {
-    refuses_others::<T>(alloc, name, taken) && reads_nothing_more::<T>(alloc)
 }
 
 #[test]
-fn numbers_have_names(rt: HostRuntime) {
-    let alloc = rt.alloc();
-    assert!(rt; is_called::<u8>(alloc, "u8", &["7"]));
-    assert!(rt; is_called::<u16>(alloc, "u16", &["7"]));
-    assert!(rt; is_called::<u32>(alloc, "u32", &["7"]));
-    assert!(rt; is_called::<u64>(alloc, "u64", &["7"]));
-    assert!(rt; is_called::<usize>(alloc, "usize", &["7"]));
-    assert!(rt; is_called::<i8>(alloc, "i8", &["7"]));
-    assert!(rt; is_called::<i16>(alloc, "i16", &["7"]));
-    assert!(rt; is_called::<i32>(alloc, "i32", &["7"]));
-    assert!(rt; is_called::<i64>(alloc, "i64", &["7"]));
-    assert!(rt; is_called::<isize>(alloc, "isize", &["7"]));
-    assert!(rt; is_called::<u128>(alloc, "u128", &["7", "18446744073709551616"]));
-    assert!(rt;
-        is_called::<i128>(
-            alloc,
-            "i128",
-            &["7", "18446744073709551616", "-9223372036854775809"]
-        )
-    );
-}
-
-#[test]
-fn other_values_have_names(rt: HostRuntime) {
+fn types_have_names(rt: HostRuntime) {
     let alloc = rt.alloc();
     let texts = ["\"x\"", "18446744073709551616", "-9223372036854775809"];
-    assert!(rt; is_called::<bool>(alloc, "bool", &["true"]));
-    assert!(rt; is_called::<String>(alloc, "string", &texts));
-    assert!(rt; is_called::<&'static str>(alloc, "string", &texts));
-    assert!(rt; is_called::<Option<u8>>(alloc, "u8", &["null", "7"]));
-    assert!(rt; is_called::<Vec<u8>>(alloc, "array", &["[]"]));
-    assert!(rt; is_called::<BTreeMap<String, u8>>(alloc, "object", &["{}"]));
+    expect_called::<u8>(&rt, alloc, "u8", &["7"]);
+    expect_called::<u16>(&rt, alloc, "u16", &["7"]);
+    expect_called::<u32>(&rt, alloc, "u32", &["7"]);
+    expect_called::<u64>(&rt, alloc, "u64", &["7"]);
+    expect_called::<usize>(&rt, alloc, "usize", &["7"]);
+    expect_called::<i8>(&rt, alloc, "i8", &["7"]);
+    expect_called::<i16>(&rt, alloc, "i16", &["7"]);
+    expect_called::<i32>(&rt, alloc, "i32", &["7"]);
+    expect_called::<i64>(&rt, alloc, "i64", &["7"]);
+    expect_called::<isize>(&rt, alloc, "isize", &["7"]);
+    expect_called::<u128>(&rt, alloc, "u128", &["7", texts[1]]);
+    expect_called::<i128>(&rt, alloc, "i128", &["7", texts[1], texts[2]]);
+    expect_called::<bool>(&rt, alloc, "bool", &["true"]);
+    expect_called::<String>(&rt, alloc, "string", &texts);
+    expect_called::<&'static str>(&rt, alloc, "string", &texts);
+    expect_called::<Option<u8>>(&rt, alloc, "u8", &["null", "7"]);
+    expect_called::<Vec<u8>>(&rt, alloc, "array", &["[]"]);
+    expect_called::<BTreeMap<String, u8>>(&rt, alloc, "object", &["{}"]);
     let values = [
-        "null",
-        "true",
-        "7",
-        "1.5",
-        "\"x\"",
-        "18446744073709551616",
-        "-9223372036854775809",
-        "{}",
-        "[]",
+        "null", "true", "7", "1.5", texts[0], texts[1], texts[2], "{}", "[]",
     ];
-    assert!(rt; is_called::<Tree>(alloc, "value", &values));
+    expect_called::<Tree>(&rt, alloc, "value", &values);
 }
 
-/// The second item of a list, after the first one was refused.
-fn second<'de, T: Facet<'de>>(alloc: Global, input: &'de str) -> Option<T> {
-    after_refused(alloc, &mut JsonParser::new(alloc, input.as_bytes()))
-}
-
-/// The second item of the list that comes, after the first one was refused.
-fn after_refused<'de, T: Facet<'de>>(alloc: Global, parser: &mut JsonParser<'de>) -> Option<T> {
-    if is_passed(parser.next_event()) && T::read(alloc, parser).err().is_some() {
-        T::read(alloc, parser).ok()
-    } else {
-        None
-    }
+/// Fails where the second item of the list is not this one, after the first one was refused.
+fn expect_second<'de, T: Facet<'de> + PartialEq>(
+    rt: &impl Abort,
+    alloc: Global,
+    input: &'de str,
+    wanted: T,
+) {
+    let mut parser = JsonParser::new(alloc, input.as_bytes());
+    assert!(rt; is_passed(parser.next_event()), "of {input}");
+    assert!(rt; T::read(alloc, &mut parser).is_err(), "of {input}");
+    assert!(rt;
+        T::read(alloc, &mut parser).ok() == Some(wanted),
+        "of {input}"
+    );
 }
 
 #[test]
 fn a_refused_value_is_passed(rt: HostRuntime) {
     let alloc = rt.alloc();
-    assert!(rt; second(alloc, "[1,true]") == Some(true));
-    assert!(rt; second(alloc, "[300,7]") == Some(7_u8));
-    assert!(rt; second(alloc, "[\"a\\u0062\",\"c\"]") == Some("c"));
+    expect_second(&rt, alloc, "[1,true]", true);
+    expect_second(&rt, alloc, "[300,7]", 7_u8);
+    expect_second(&rt, alloc, "[\"a\\u0062\",\"c\"]", "c");
 }

@@ -2,14 +2,7 @@
 
 use facet_json_examples::rewriting::rewritten;
 use std::alloc::Global;
-
-/// Whether the document is written as this text.
-fn is_written(alloc: Global, document: &str, text: &str) -> bool {
-    match rewritten(alloc, document.as_bytes()).ok() {
-        Some(written) => written.as_slice() == text.as_bytes(),
-        None => false,
-    }
-}
+use std::process::Abort;
 
 /// Inputs, and what their documents are written as.
 static REWRITTEN: [(&str, &str); 6] = [
@@ -21,12 +14,18 @@ static REWRITTEN: [(&str, &str); 6] = [
     ("-007", "-7"),
 ];
 
+/// Fails where the document is not written as this text.
+fn expect_written(rt: &impl Abort, alloc: Global, document: &str, text: &str) {
+    let written = rewritten(alloc, document.as_bytes()).expect(rt, document);
+    assert!(rt; written.as_slice() == text.as_bytes(), "of {document}");
+}
+
 #[test]
 fn documents_are_rewritten(rt: HostRuntime) {
     let alloc = rt.alloc();
-    for (document, text) in &REWRITTEN {
-        assert!(rt; is_written(alloc, *document, *text));
-        assert!(rt; is_written(alloc, *text, *text));
+    for &(document, text) in &REWRITTEN {
+        expect_written(&rt, alloc, document, text);
+        expect_written(&rt, alloc, text, text);
     }
-    assert!(rt; rewritten(alloc, b"[1").ok().is_none());
+    assert!(rt; rewritten(alloc, b"[1").is_err());
 }

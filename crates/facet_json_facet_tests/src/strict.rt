@@ -1,83 +1,57 @@
 //! Values of strict mode, which is RFC 8259 alone: what stands behind them is looked at, and what a capture passes is not.
 
-use crate::typed::{is_told, mismatch, out_of_range, refusal};
-use facet_format::{DeserializeErrorKind, Span};
-use facet_json::{from_slice, from_slice_strict, from_str_strict};
+use crate::readers::By;
+use crate::rows::{Case, Told, expect};
+use crate::typed::expect_values;
 use facet_json_core::RawJson;
-use facet_json_facet::Facet;
-use std::alloc::Global;
 
-/// Whether strict mode refuses the input so, as bytes and as a text.
-fn refuses<'de, T: Facet<'de>>(
-    alloc: Global,
-    input: &'de str,
-    kind: DeserializeErrorKind<'_>,
-    span: Span,
-) -> bool {
-    let error = refusal(kind, span);
-    is_told(from_slice_strict::<T>(alloc, input.as_bytes()), error)
-        && is_told(from_str_strict::<T>(alloc, input), error)
-}
+/// Bytes alone, also behind white space.
+static BYTES: [(&str, u8, &str); 1] = [(" 7 \n", 7, "7")];
 
-/// The refusal of a byte that may not stand there.
-pub(crate) fn unexpected(ch: char) -> DeserializeErrorKind<'static> {
-    DeserializeErrorKind::UnexpectedChar {
-        ch,
-        expected: "valid JSON token",
-    }
-}
+/// Numbers with a sign.
+static SIGNED: [(&str, i8, &str); 1] = [("-0", 0, "0")];
 
-/// The refusal of a token that may not stand there.
-pub(crate) fn token(got: &'static str, expected: &'static str) -> DeserializeErrorKind<'static> {
-    DeserializeErrorKind::UnexpectedToken { got, expected }
-}
+/// Bytes that may be null.
+static OPTIONAL: [(&str, Option<u8>, &str); 1] = [("null", None, "null")];
+
+/// What stands behind a number is read by no other function.
+static BEHIND: [(&str, u8, &str); 1] = [("1 2", 1, "1")];
+
+/// What is no byte alone: what stands behind it, what is no byte before that, and what only lenient readings have.
+static NO_BYTES: [Case<'static>; 7] = [
+    ("1 2", Told::Token("U64", "end of input"), 2, 1),
+    ("1 x", Told::Byte('x'), 2, 1),
+    ("1 01", Told::Byte('?'), 2, 2),
+    ("300 x", Told::Range("u8"), 0, 3),
+    ("\"x\" 1", Told::Other("u8", "string"), 0, 3),
+    ("007", Told::Byte('?'), 0, 3),
+    ("/**/1", Told::Byte('/'), 0, 1),
+];
+
+/// The same of lists.
+static NO_LISTS: [Case<'static>; 2] = [
+    ("[1]]", Told::Token("ArrayEnd", "end of input"), 3, 1),
+    ("[1,]", Told::Token("ArrayEnd", "value"), 3, 1),
+];
+
+/// The same of texts.
+static NO_TEXTS: [Case<'static>; 2] = [
+    ("\"a\" \"\\q\"", Told::Byte('q'), 6, 1),
+    ("\"\t\"", Told::Byte('\t'), 1, 1),
+];
+
+/// The same of raw texts.
+static NO_RAWS: [Case<'static>; 1] = [("[1,] 2", Told::Token("U64", "end of input"), 5, 1)];
 
 #[test]
 fn a_value_alone_is_read_strictly(rt: HostRuntime) {
     let alloc = rt.alloc();
-    assert!(rt; from_slice_strict(alloc, b" 7 \n") == Ok(7_u8));
-    assert!(rt; from_str_strict(alloc, "-0") == Ok(0_i8));
-    assert!(rt; from_slice_strict(alloc, b"null") == Ok(None::<u8>));
-}
-
-#[test]
-fn what_stands_behind_a_value_is_refused(rt: HostRuntime) {
-    let alloc = rt.alloc();
-    assert!(rt; from_slice(alloc, b"1 2") == Ok(1_u8));
-    assert!(rt; refuses::<u8>(alloc, "1 2", token("U64", "end of input"), Span::new(2, 1)));
-    assert!(rt; refuses::<u8>(alloc, "1 x", unexpected('x'), Span::new(2, 1)));
-    assert!(rt; refuses::<u8>(alloc, "1 01", unexpected('?'), Span::new(2, 2)));
-    assert!(rt;
-        refuses::<Vec<u8>>(
-            alloc,
-            "[1]]",
-            token("ArrayEnd", "end of input"),
-            Span::new(3, 1)
-        )
-    );
-    assert!(rt; refuses::<String>(alloc, "\"a\" \"\\q\"", unexpected('q'), Span::new(6, 1)));
-    assert!(rt;
-        refuses::<RawJson<'static>>(
-            alloc,
-            "[1,] 2",
-            token("U64", "end of input"),
-            Span::new(5, 1)
-        )
-    );
-}
-
-#[test]
-fn a_value_is_refused_before_what_stands_behind_it(rt: HostRuntime) {
-    let alloc = rt.alloc();
-    assert!(rt; refuses::<u8>(alloc, "300 x", out_of_range("u8"), Span::new(0, 3)));
-    assert!(rt; refuses::<u8>(alloc, "\"x\" 1", mismatch("u8", "string"), Span::new(0, 3)));
-}
-
-#[test]
-fn lenient_readings_are_refused(rt: HostRuntime) {
-    let alloc = rt.alloc();
-    assert!(rt; refuses::<u8>(alloc, "007", unexpected('?'), Span::new(0, 3)));
-    assert!(rt; refuses::<Vec<u8>>(alloc, "[1,]", token("ArrayEnd", "value"), Span::new(3, 1)));
-    assert!(rt; refuses::<String>(alloc, "\"\t\"", unexpected('\t'), Span::new(1, 1)));
-    assert!(rt; refuses::<u8>(alloc, "/**/1", unexpected('/'), Span::new(0, 1)));
+    expect_values::<u8>(&rt, alloc, By::Each, &BYTES);
+    expect_values::<i8>(&rt, alloc, By::Each, &SIGNED);
+    expect_values::<Option<u8>>(&rt, alloc, By::Each, &OPTIONAL);
+    expect_values::<u8>(&rt, alloc, By::Lenient, &BEHIND);
+    expect::<u8>(&rt, alloc, By::Strict, &NO_BYTES);
+    expect::<Vec<u8>>(&rt, alloc, By::Strict, &NO_LISTS);
+    expect::<String>(&rt, alloc, By::Strict, &NO_TEXTS);
+    expect::<RawJson<'static>>(&rt, alloc, By::Strict, &NO_RAWS);
 }
