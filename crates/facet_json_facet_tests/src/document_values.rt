@@ -300,12 +300,29 @@ fn values_are_found(rt: HostRuntime) {
     }
 }
 
+/// Whether a value has these members, or these items, and none of the others.
+fn holds(root: &Value<'_, '_>, is_object: bool) -> bool {
+    if is_object {
+        holds_members(root) && root.items().is_none()
+    } else {
+        holds_items(root) && root.members().is_none()
+    }
+}
+
+/// Fails where the input doesn't hold them.
+fn expect_held(rt: &impl Abort, alloc: Global, input: &str, is_object: bool) {
+    let document = Document::parse(alloc, input.as_bytes()).expect(rt, input);
+    assert!(rt; holds(&document.root(), is_object), "of {input}");
+}
+
 #[test]
 fn what_is_held_comes_in_order(rt: HostRuntime) {
     let alloc = rt.alloc();
-    let object = b"{\"a\":1,\"b\":[2,{\"a\":3}],\"\\u0061\":4}";
-    let document = Document::parse(alloc, object).expect(&rt, "an object");
-    assert!(rt; holds_members(&document.root()) && document.root().items().is_none());
-    let document = Document::parse(alloc, b"[7,[8],9]").expect(&rt, "a list");
-    assert!(rt; holds_items(&document.root()) && document.root().members().is_none());
+    expect_held(
+        &rt,
+        alloc,
+        "{\"a\":1,\"b\":[2,{\"a\":3}],\"\\u0061\":4}",
+        true,
+    );
+    expect_held(&rt, alloc, "[7,[8],9]", false);
 }

@@ -87,20 +87,21 @@ static CUT: [(&str, &str); 6] = [
     ("{\"a\" 1,\"b\":2}", "b"),
 ];
 
-/// Fails where the object that is the input has such a key or is not passed whole, and where it is cut if the search is not refused.
+/// Whether the object that comes has no such key and is passed whole, or, where it is cut, the search is refused.
+fn lacks(parser: &mut JsonParser<'_>, name: &str, is_cut: bool) -> bool {
+    if begin_object(parser).is_err() {
+        return false;
+    }
+    match find_key(parser, name) {
+        Ok(found) => !found && !is_cut && pass_end(parser).is_ok(),
+        Err(_) => is_cut,
+    }
+}
+
+/// Fails where this is not so of the object that is the input.
 fn expect_lacking(rt: &impl Abort, alloc: Global, input: &str, name: &str, is_cut: bool) {
-    let mut parser = JsonParser::new(alloc, input.as_bytes());
-    assert!(rt; begin_object(&mut parser).is_ok(), "of {input}");
-    let found = find_key(&mut parser, name);
-    assert!(rt;
-        if is_cut {
-            found.is_err()
-        } else {
-            found == Ok(false)
-        },
-        "of {input}"
-    );
-    assert!(rt; is_cut || pass_end(&mut parser).is_ok(), "of {input}");
+    let holds = lacks(&mut JsonParser::new(alloc, input.as_bytes()), name, is_cut);
+    assert!(rt; holds, "{name} of {input}");
 }
 
 #[test]

@@ -33,13 +33,23 @@ fn ids(alloc: Global) -> Result<Tree, AllocError> {
     tree!(in alloc; [1u8, 2u16, 3u32, 4u64, 5usize])
 }
 
-/// A tree that is moved and one that is copied, and values that may be null.
-fn of_trees(alloc: Global, copied: &Tree) -> Result<Tree, AllocError> {
+/// Values that may be null.
+fn nullable(alloc: Global) -> Result<Tree, AllocError> {
+    tree!(in alloc; [Some(1u8), None::<bool>, [null]])
+}
+
+/// A tree that is moved and one that is copied.
+fn of_trees(alloc: Global, moved: Tree, copied: &Tree, perhaps: Tree) -> Result<Tree, AllocError> {
     tree!(in alloc; {
-        "ids": ids(alloc)?,
+        "ids": moved,
         "again": copied,
-        "perhaps": [Some(1u8), None::<bool>, [null]],
+        "perhaps": perhaps,
     })
+}
+
+/// A value alone.
+fn seven(alloc: Global) -> Result<Tree, AllocError> {
+    tree!(in alloc; 7u8)
 }
 
 /// The text of `of_literals`.
@@ -63,7 +73,9 @@ fn trees_are_written_down(rt: HostRuntime) {
     expect_of(&rt, alloc, of_literals(alloc), LITERALS);
     expect_of(&rt, alloc, of_names(alloc, "Ada"), NAMES);
     let copied = ids(alloc).expect(&rt, "memory");
-    expect_of(&rt, alloc, of_trees(alloc, &copied), TREES);
-    expect_of(&rt, alloc, tree!(in alloc; 7u8), "7");
+    let moved = ids(alloc).expect(&rt, "memory");
+    let perhaps = nullable(alloc).expect(&rt, "memory");
+    expect_of(&rt, alloc, of_trees(alloc, moved, &copied, perhaps), TREES);
+    expect_of(&rt, alloc, seven(alloc), "7");
     expect_of(&rt, alloc, tree!(in alloc; null), "null");
 }
