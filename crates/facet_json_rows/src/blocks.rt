@@ -1,7 +1,9 @@
 //! The skip of a value whose bytes stand at each place of the windows and blocks that it is passed by.
 
 use crate::compared::{Mode, parser_of};
-use facet_format::FormatParser;
+use crate::shown::write_error;
+use crate::unread::{Passed, Unread, passed_by};
+use facet_format::{ParseError, Span};
 use std::alloc::{AllocError, Global};
 
 /// How often a part is repeated at most: over two blocks of sixty-four, and a little more.
@@ -42,60 +44,74 @@ pub fn answer_blocks(
     Ok(())
 }
 
-/// Writes where the skip ends, counted from the end of the repeated part, for each number of times from which on it ends elsewhere.
+/// Where a skip of the root ends, or its refusal, counted from the end of the repeated part; nothing where white space after it changes that.
+type Ending = Option<Result<usize, ParseError<'static>>>;
+
+/// Writes where the skip ends for each number of times from which on it ends elsewhere.
 fn write_ends(
     alloc: Global,
     mode: Mode,
     parts: Parts<'_>,
     told: &mut String,
 ) -> Result<(), AllocError> {
-    let mut last = String::new(alloc);
+    let mut last = None;
     for count in 0..=MOST {
         let end = end_of(alloc, mode, parts, count)?;
-        if end != last {
-            writeln!(told, "{count}: {end}")?;
+        if count == 0 || end != last {
+            write_end(count, &end, told)?;
         }
         last = end;
     }
     Ok(())
 }
 
-/// Where a skip of these parts ends, the second one so many times, counted from the end of that.
-fn end_of(alloc: Global, mode: Mode, parts: Parts<'_>, count: usize) -> Result<String, AllocError> {
-    let repeated = parts.repeated.repeat(alloc, count)?;
-    let mut input = joined(alloc, parts.before, repeated.as_str(), parts.after)?;
-    end(alloc, mode, &mut input, repeated.len())
+/// Writes where the skip ends where the part is repeated so often.
+fn write_end(count: usize, end: &Ending, told: &mut String) -> Result<(), AllocError> {
+    write!(told, "{count}: ")?;
+    match end {
+        Some(Ok(end)) => write!(told, "{end}")?,
+        Some(Err(error)) => write_error(error, told)?,
+        None => told.push_str("DIFFERS")?,
+    }
+    told.push('\n')
 }
 
-/// The three texts one after another.
-fn joined(alloc: Global, first: &str, second: &str, third: &str) -> Result<String, AllocError> {
-    format!(in alloc; "{first}{second}{third}")
+/// Where a skip of these parts ends, the second one so many times.
+fn end_of(alloc: Global, mode: Mode, parts: Parts<'_>, count: usize) -> Result<Ending, AllocError> {
+    let mut input = String::new(alloc);
+    push_parts(parts, count, &mut input)?;
+    let less = parts.repeated.len().saturating_mul(count);
+    end(alloc, mode, &mut input, less)
 }
 
-/// Where a skip of the input's root ends, so many bytes less; the same where white space follows.
-fn end(alloc: Global, mode: Mode, input: &mut String, less: usize) -> Result<String, AllocError> {
-    let alone = skip_end(alloc, mode, input.as_bytes(), less)?;
+/// Appends the parts, the second one so many times.
+fn push_parts(parts: Parts<'_>, count: usize, input: &mut String) -> Result<(), AllocError> {
+    input.push_str(parts.before)?;
+    for _ in 0..count {
+        input.push_str(parts.repeated)?;
+    }
+    input.push_str(parts.after)
+}
+
+/// Where a skip of the input's root ends, so many bytes less, where white space after it changes nothing.
+fn end(alloc: Global, mode: Mode, input: &mut String, less: usize) -> Result<Ending, AllocError> {
+    let alone = skip_end(alloc, mode, input.as_bytes(), less);
     input.push_str(BLANK)?;
-    if skip_end(alloc, mode, input.as_bytes(), less)? == alone {
+    if skip_end(alloc, mode, input.as_bytes(), less) == alone {
         Ok(alone)
     } else {
-        "DIFFERS".to_string(alloc)
+        Ok(None)
     }
 }
 
 /// Where a skip of the root ends, or its refusal, so many bytes less.
-fn skip_end(alloc: Global, mode: Mode, input: &[u8], less: usize) -> Result<String, AllocError> {
-    let mut parser = parser_of(alloc, mode, false, input);
-    match parser.skip_value() {
-        Ok(()) => match parser.current_span() {
-            Some(span) => span.end().saturating_sub(less).to_string(alloc),
-            None => "no span".to_string(alloc),
-        },
-        Err(error) => format!(in alloc;
-            "refused {:?} {}+{}",
-            error.kind,
-            error.span.offset.saturating_sub(less),
-            error.span.len
-        ),
+fn skip_end(alloc: Global, mode: Mode, input: &[u8], less: usize) -> Ending {
+    match passed_by(&mut parser_of(alloc, mode, false, input), Unread::Skip) {
+        Ok(Passed::Token(span)) => Some(Ok(span.end().saturating_sub(less))),
+        Ok(_) => None,
+        Err(ParseError { span, kind }) => {
+            let span = Span::new(span.offset.saturating_sub(less), span.len);
+            Some(Err(ParseError { span, kind }))
+        }
     }
 }

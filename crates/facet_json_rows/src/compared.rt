@@ -2,8 +2,7 @@
 
 use crate::cuts::tell_cuts;
 use crate::shown::{Telling, push, push_answer};
-use crate::unread::{Unread, tell_parts};
-use facet_format::FormatParser;
+use crate::unread::{Unread, next_span, tell_parts};
 use facet_json::{
     Answer, Call, JsonParser, drive, tree_from_slice, tree_from_slice_jsonc, tree_from_slice_strict,
 };
@@ -169,16 +168,19 @@ fn ask(
     match way {
         Way::ByNext => tell_by_next(alloc, parser, len, told),
         Way::ByPeekAndNext => tell_by_peek_and_next(alloc, parser, len, told),
-        Way::ByEvents => tell_by_events(alloc, parser, len, told),
+        Way::ByEvents => {
+            let calls = [Call::Events(len), Call::Events(0), Call::Next, Call::Span];
+            push_answers(alloc, parser, &calls, Telling::New, told)
+        }
         Way::FirstByNext(count) => tell_first_by_next(alloc, parser, count, told),
         Way::FirstByEvents(count) => tell_first_by_events(alloc, parser, count, told),
         Way::ByCalls(calls) => push_answers(alloc, parser, calls, Telling::All, told),
-        Way::ByUnread(call, is_peeked) => tell_parts(alloc, parser, call, is_peeked, len, told),
+        Way::ByUnread(call, is_peeked) => tell_parts(parser, call, is_peeked, len, told),
         Way::Tree | Way::Cuts => Ok(()),
     }
 }
 
-/// A parser of the input; one that need not check it only where it is a text.
+/// A parser of the input; one that need not check its strings only where it is a text.
 pub fn parser_of<'de>(
     alloc: Global,
     mode: Mode,
@@ -186,27 +188,26 @@ pub fn parser_of<'de>(
     input: &'de [u8],
 ) -> JsonParser<'de> {
     match str::from_utf8(input) {
-        Ok(text) if is_trusted => trusting(alloc, mode, text),
-        _ => checking(alloc, mode, input),
+        Ok(text) if is_trusted => match mode {
+            Mode::Plain => JsonParser::new_trusted(alloc, text.as_bytes()),
+            Mode::Jsonc => JsonParser::new_jsonc_trusted(alloc, text.as_bytes()),
+            Mode::Strict => JsonParser::new_strict_trusted(alloc, text.as_bytes()),
+        },
+        _ => match mode {
+            Mode::Plain => JsonParser::new(alloc, input),
+            Mode::Jsonc => JsonParser::new_jsonc(alloc, input),
+            Mode::Strict => JsonParser::new_strict(alloc, input),
+        },
     }
 }
 
-/// A parser that need not check its strings.
-fn trusting<'de>(alloc: Global, mode: Mode, text: &'de str) -> JsonParser<'de> {
-    match mode {
-        Mode::Plain => JsonParser::new_trusted(alloc, text.as_bytes()),
-        Mode::Jsonc => JsonParser::new_jsonc_trusted(alloc, text.as_bytes()),
-        Mode::Strict => JsonParser::new_strict_trusted(alloc, text.as_bytes()),
-    }
-}
-
-/// A parser that checks its strings.
-fn checking<'de>(alloc: Global, mode: Mode, input: &'de [u8]) -> JsonParser<'de> {
-    match mode {
-        Mode::Plain => JsonParser::new(alloc, input),
-        Mode::Jsonc => JsonParser::new_jsonc(alloc, input),
-        Mode::Strict => JsonParser::new_strict(alloc, input),
-    }
+/// The answers to the calls.
+pub fn answers_of<'de>(
+    alloc: Global,
+    parser: &mut JsonParser<'de>,
+    calls: &[Call],
+) -> Result<Vec<Answer<'de>>, AllocError> {
+    drive(alloc, parser, calls)
 }
 
 /// Appends the answers to the calls.
@@ -217,7 +218,7 @@ fn push_answers(
     telling: Telling,
     told: &mut String,
 ) -> Result<(), AllocError> {
-    let answers = drive(alloc, parser, calls)?;
+    let answers = answers_of(alloc, parser, calls)?;
     for answer in answers.as_slice() {
         push_answer(alloc, answer, telling, told)?;
     }
@@ -266,17 +267,6 @@ fn tell_peek_and_next(
     }
 }
 
-/// The same, all at once.
-fn tell_by_events(
-    alloc: Global,
-    parser: &mut JsonParser<'_>,
-    len: usize,
-    told: &mut String,
-) -> Result<(), AllocError> {
-    let calls = [Call::Events(len), Call::Events(0), Call::Next, Call::Span];
-    push_answers(alloc, parser, &calls, Telling::New, told)
-}
-
 /// How many of the first so many events come, and then the next one and the span.
 fn tell_first_by_next(
     alloc: Global,
@@ -286,7 +276,7 @@ fn tell_first_by_next(
 ) -> Result<(), AllocError> {
     let mut come = 0_usize;
     for _ in 0..count {
-        if matches!(parser.next_event(), Ok(Some(_))) {
+        if matches!(next_span(parser), Ok(Some(_))) {
             come = come.saturating_add(1);
         }
     }
@@ -300,7 +290,7 @@ fn tell_first_by_events(
     count: usize,
     told: &mut String,
 ) -> Result<(), AllocError> {
-    let answers = drive(alloc, parser, &[Call::Events(count)])?;
+    let answers = answers_of(alloc, parser, &[Call::Events(count)])?;
     tell_rest(alloc, parser, come_in(answers.as_slice()), told)
 }
 

@@ -3,7 +3,7 @@
 ghost use Rattle.facet_json.specs.Now.{ahead};
 ghost use Rattle.std.specs.Prelude.{◌≡◌, ◌+◌, ◌^◌, ◌<◌, ◌≤◌, IfOk, length};
 
-use crate::shown::error_shown;
+use crate::shown::write_error;
 use facet_format::{DeserializeError, FormatParser, ParseError};
 use facet_json::JsonParser;
 use std::alloc::{AllocError, Global};
@@ -68,14 +68,9 @@ fn odd_agrees(parser: &mut JsonParser<'_>, counted: Result<usize, ParseError<'st
     }
 }
 
-/// Whether the parser is one of JSON.
-fn is_of_json(parser: &JsonParser<'_>) -> bool {
-    name_of(parser) == Some("json")
-}
-
 /// Whether parsers of the input are of JSON, and all readers agree with this count or refusal.
 fn agree(alloc: Global, input: &[u8], counted: Result<usize, ParseError<'static>>) -> bool {
-    let named = is_of_json(&JsonParser::new(alloc, input));
+    let named = name_of(&JsonParser::new(alloc, input)) == Some("json");
     let read = read_agrees(&mut JsonParser::new(alloc, input), counted);
     let odd = odd_agrees(&mut JsonParser::new(alloc, input), counted);
     named && read && odd
@@ -89,6 +84,9 @@ pub fn answer_count(alloc: Global, input: &[u8], told: &mut String) -> Result<()
     }
     match counted {
         Ok(count) => writeln!(told, "{count} events"),
-        Err(error) => writeln!(told, "{}", error_shown(alloc, &error)?),
+        Err(error) => {
+            write_error(&error, told)?;
+            told.push('\n')
+        }
     }
 }

@@ -2,11 +2,13 @@
 
 use crate::compared::{Mode, Way, compare, parser_of, write_disagreement};
 use crate::row::ALL_EVENTS;
-use crate::shown::bytes_shown;
-use crate::unread::{Unread, span_shown};
-use facet_format::{FormatParser, ParseError, Span};
+use crate::unread::{Passed, Unread, last_span, next_span, passed_by, write_passed};
+use facet_format::{ParseError, Span};
 use facet_json::JsonParser;
 use std::alloc::{AllocError, Global};
+
+/// What is passed of a prefix, or the refusal.
+type Cut = Result<Passed, ParseError<'static>>;
 
 /// Writes what comes of each prefix of the input, and where parsers of a prefix, or ways to ask them, tell different things.
 pub fn answer_cuts(
@@ -64,6 +66,7 @@ pub fn tell_cuts(
     Ok(())
 }
 
+/// What comes of a prefix.
 fn tell_cut(
     alloc: Global,
     input: &[u8],
@@ -73,26 +76,34 @@ fn tell_cut(
 ) -> Result<(), AllocError> {
     let mut parser = parser_of(alloc, mode, is_trusted, input);
     let come = come_in(&mut parser, input.len());
-    let end = end_shown(alloc, &mut parser, input.len())?;
-    write!(told, "{come}, {end}")?;
-    tell_unread(alloc, input, mode, is_trusted, end.as_str(), told)
+    let end = end_of(&mut parser, input.len());
+    write!(told, "{come}, ")?;
+    write_cut(end, told)?;
+    let skip = passed_by(&mut parser_of(alloc, mode, is_trusted, input), Unread::Skip);
+    let capture = passed_by(
+        &mut parser_of(alloc, mode, is_trusted, input),
+        Unread::Capture,
+    );
+    tell_unread(skip, capture, end, told)
 }
 
 /// What a skip and a capture of the root do, unless both are refused as the events are.
-fn tell_unread(
-    alloc: Global,
-    input: &[u8],
-    mode: Mode,
-    is_trusted: bool,
-    end: &str,
-    told: &mut String,
-) -> Result<(), AllocError> {
-    let skip = skip_shown(alloc, &mut parser_of(alloc, mode, is_trusted, input))?;
-    let capture = capture_shown(alloc, &mut parser_of(alloc, mode, is_trusted, input))?;
-    if skip.as_str() == end && capture.as_str() == end {
+fn tell_unread(skip: Cut, capture: Cut, end: Cut, told: &mut String) -> Result<(), AllocError> {
+    if is_refused_so(skip, end) && is_refused_so(capture, end) {
         return Ok(());
     }
-    write!(told, ", {skip}, {capture}")
+    told.push_str(", ")?;
+    write_cut(skip, told)?;
+    told.push_str(", ")?;
+    write_cut(capture, told)
+}
+
+/// Whether both are refusals of one number and span.
+fn is_refused_so(one: Cut, other: Cut) -> bool {
+    match (one, other) {
+        (Err(one), Err(other)) => one.kind.code() == other.kind.code() && one.span == other.span,
+        _ => false,
+    }
 }
 
 /// How many of the first so many events come, which are all that an input of so many bytes may have.
@@ -107,51 +118,39 @@ fn come_in(parser: &mut JsonParser<'_>, len: usize) -> usize {
 }
 
 /// The end or the refusal, which comes again.
-fn end_shown(alloc: Global, parser: &mut JsonParser<'_>, len: usize) -> Result<String, AllocError> {
+fn end_of(parser: &mut JsonParser<'_>, len: usize) -> Cut {
     let end = comes(parser, len);
     if comes(parser, len) != end {
-        return "not again".to_string(alloc);
+        return Ok(Passed::Nothing("not again"));
     }
     match end {
-        Some(Ok(false)) => "None".to_string(alloc),
-        Some(Err(error)) => refusal_shown(alloc, error),
-        _ => "no end".to_string(alloc),
+        Some(Ok(false)) => Ok(Passed::Nothing("None")),
+        Some(Err(error)) => Err(error),
+        _ => Ok(Passed::Nothing("no end")),
     }
 }
 
 /// Whether an event comes, or the refusal; nothing where one of these, or the last token then, is of other than the first so many bytes.
 fn comes(parser: &mut JsonParser<'_>, len: usize) -> Option<Result<bool, ParseError<'static>>> {
-    let (span, came) = match parser.next_event() {
-        Ok(Some(event)) => (event.span, Ok(true)),
+    let (span, came) = match next_span(parser) {
+        Ok(Some(span)) => (span, Ok(true)),
         Ok(None) => (Span::new(0, 0), Ok(false)),
         Err(error) => (error.span, Err(error)),
     };
-    if span.end() <= len && parser.current_span()?.end() <= len {
+    if span.end() <= len && last_span(parser)?.end() <= len {
         Some(came)
     } else {
         None
     }
 }
 
-/// The last token after a skip of the root, or the refusal.
-fn skip_shown(alloc: Global, parser: &mut JsonParser<'_>) -> Result<String, AllocError> {
-    match parser.skip_value() {
-        Ok(()) => span_shown(alloc, parser),
-        Err(error) => refusal_shown(alloc, error),
+/// Writes what is passed, or the refusal's number and span.
+fn write_cut(cut: Cut, told: &mut String) -> Result<(), AllocError> {
+    match cut {
+        Ok(passed) => write_passed(passed, told),
+        Err(error) => {
+            let (code, span) = (error.kind.code(), error.span);
+            write!(told, "{code} {}+{}", span.offset, span.len)
+        }
     }
-}
-
-/// How many bytes a capture of the root answers, or the refusal.
-fn capture_shown(alloc: Global, parser: &mut JsonParser<'_>) -> Result<String, AllocError> {
-    match parser.capture_raw() {
-        Ok(Some(text)) => bytes_shown(alloc, text.len()),
-        Ok(None) => "no raw text".to_string(alloc),
-        Err(error) => refusal_shown(alloc, error),
-    }
-}
-
-/// The refusal's number and span.
-fn refusal_shown(alloc: Global, error: ParseError<'_>) -> Result<String, AllocError> {
-    let (code, span) = (error.kind.code(), error.span);
-    format!(in alloc; "{code} {}+{}", span.offset, span.len)
 }

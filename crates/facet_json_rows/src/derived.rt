@@ -108,7 +108,7 @@ pub fn answer_derived(alloc: Global, words: &str, told: &mut String) -> Result<(
         "parser" => write_parser(alloc, told),
         "answer" => writeln!(told, "{:?}", Answer::Restored),
         "kinds of refusals" => write_kinds(told),
-        "refused writing" => write_refused_writing(alloc, told),
+        "refused writing" => write_refused_writing(told),
         "raw text" => write_raw(alloc, told),
         _ => told.push_str("NO TYPES\n"),
     }
@@ -167,16 +167,13 @@ fn write_calls(told: &mut String) -> Result<(), AllocError> {
 
 /// Writes the name under which a parser is shown.
 fn write_parser(alloc: Global, told: &mut String) -> Result<(), AllocError> {
-    write_name(parser_shown(alloc)?.as_str(), told)
+    let shown = parser_shown(alloc)?;
+    let (name, _) = shown.split_once(" {").unwrap_or(("", ""));
+    writeln!(told, "{name}")
 }
 
 fn parser_shown(alloc: Global) -> Result<String, AllocError> {
     format!(in alloc; "{:?}", JsonParser::new(alloc, b"[]"))
-}
-
-fn write_name(shown: &str, told: &mut String) -> Result<(), AllocError> {
-    let (name, _) = shown.split_once(" {").unwrap_or(("", ""));
-    writeln!(told, "{name}")
 }
 
 fn write_kinds(told: &mut String) -> Result<(), AllocError> {
@@ -186,14 +183,9 @@ fn write_kinds(told: &mut String) -> Result<(), AllocError> {
     Ok(())
 }
 
-fn write_refused_writing(alloc: Global, told: &mut String) -> Result<(), AllocError> {
+fn write_refused_writing(told: &mut String) -> Result<(), AllocError> {
     let error = JsonSerializeError::OutOfMemory;
-    let code = error.code();
-    write_coded(code, error.to_string(alloc)?.as_str(), told)
-}
-
-fn write_coded(code: u8, shown: &str, told: &mut String) -> Result<(), AllocError> {
-    writeln!(told, "{code} {shown}")
+    writeln!(told, "{} {error}", error.code())
 }
 
 /// Writes how a raw text is shown, and one that is in memory of its own.

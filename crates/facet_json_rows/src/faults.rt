@@ -132,6 +132,16 @@ impl Ended {
     }
 }
 
+/// How a run of the program over this reader and writer ends.
+pub fn run_over<R: Read, W: Write>(
+    alloc: Global,
+    args: &[String],
+    reader: &mut R,
+    writer: &mut W,
+) -> Outcome {
+    run(alloc, args, reader, writer)
+}
+
 /// A run of which one read fails. It tells of that, and writes nothing.
 fn with_failed_read(
     alloc: Global,
@@ -142,7 +152,7 @@ fn with_failed_read(
 ) -> Ended {
     let mut reader = FaultyReader::new(case.input, at, kind);
     let mut written = Vec::new(alloc);
-    let outcome = run(alloc, case.args, &mut reader, &mut written);
+    let outcome = run_over(alloc, case.args, &mut reader, &mut written);
     Ended::of(
         reader.has_failed(),
         outcome == told && written.is_empty(),
@@ -158,7 +168,7 @@ fn with_failed_write(alloc: Global, case: &Case<'_>, at: usize) -> Ended {
         passed_on: 0,
         fault: Fault::at(at, ErrorKind::BrokenPipe),
     };
-    let outcome = run(alloc, case.args, &mut reader, &mut writer);
+    let outcome = run_over(alloc, case.args, &mut reader, &mut writer);
     let taken = writer.taken.as_slice();
     Ended::of(
         writer.fault.is_met(),

@@ -34,26 +34,21 @@ fn answer_line(alloc: Global, line: &str, told: &mut String) -> Result<(), Alloc
     row::answer(alloc, line, told)
 }
 
-/// Tells each line of the rows again, and below a command line what it prints.
-fn answer(alloc: Global, rows: &str, told: &mut String) -> Result<(), AllocError> {
+/// Tells each line of the rows again, and below a command line what it prints. The rows have to be a text.
+fn answer(alloc: Global, rows: &[u8], told: &mut String) -> io::Result<()> {
+    let Ok(rows) = str::from_utf8(rows) else {
+        return Err(io::Error::from(ErrorKind::InvalidData));
+    };
     for line in rows.lines() {
         answer_line(alloc, line, told)?;
     }
     Ok(())
 }
 
-/// Answers rows of bytes, which have to be a text.
-fn answer_bytes(alloc: Global, rows: &[u8], told: &mut String) -> io::Result<()> {
-    match str::from_utf8(rows) {
-        Ok(rows) => Ok(answer(alloc, rows, told)?),
-        Err(_) => Err(io::Error::from(ErrorKind::InvalidData)),
-    }
-}
-
 fn main(rt: HostRuntime) -> io::Result<()> {
     let mut rows = Vec::new(rt.alloc());
     rt.stdin().read_to_end(&mut rows)?;
     let mut told = String::new(rt.alloc());
-    answer_bytes(rt.alloc(), rows.as_slice(), &mut told)?;
+    answer(rt.alloc(), rows.as_slice(), &mut told)?;
     rt.stdout().write_all(told.as_bytes())
 }

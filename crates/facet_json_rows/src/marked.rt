@@ -1,13 +1,13 @@
 //! Calls whose requests for memory stand between two marks, so that `checks/allocations` can refuse each of these and no other.
 
-use crate::compared::{Mode, parser_of};
+use crate::compared::{Mode, answers_of, parser_of};
 use crate::pieces::agree;
 use crate::row::{first_word, modes};
 use crate::scans::scan_of;
 use crate::shown::{Telling, push_answer};
 use facet_format::{FormatParser, ParseError, ParseEvent};
 use facet_json::scanner::Mode as Gaps;
-use facet_json::{Answer, Call, JsonParser, drive};
+use facet_json::{Answer, Call, JsonParser};
 use facet_json_command::script::parse_script;
 use std::alloc::{AllocError, Global};
 use std::collections::VecDeque;
@@ -87,7 +87,7 @@ fn answer_calls(
 ) -> Result<(), AllocError> {
     mark(alloc);
     let mut parser = parser_of(alloc, mode, is_trusted, input);
-    let answers = drive(alloc, &mut parser, calls);
+    let answers = answers_of(alloc, &mut parser, calls);
     let is_whole = parser.input() == Some(input);
     mark(alloc);
     match answers {

@@ -9,7 +9,7 @@ use crate::counted::answer_count;
 use crate::cuts::answer_cuts;
 use crate::decoded::{answer_decode, answer_repeated};
 use crate::derived::answer_derived;
-use crate::faults::{Case, FaultyReader, write_untold};
+use crate::faults::{Case, FaultyReader, run_over, write_untold};
 use crate::long::answer_long;
 use crate::marked::answer_marked;
 use crate::numbers::answer_number;
@@ -21,7 +21,6 @@ use crate::trees::{answer_equal, answer_write};
 use crate::unread::Unread;
 use facet_json::Span;
 use facet_json_command::outcome::{OUT_OF_MEMORY, Outcome, status, write_line};
-use facet_json_command::run::run;
 use facet_json_command::script::parse_script;
 use std::alloc::{AllocError, Global};
 use std::io::ErrorKind;
@@ -34,34 +33,6 @@ pub fn answer(alloc: Global, row: &str, told: &mut String) -> Result<(), AllocEr
     match printed(alloc, text)? {
         Some(input) => answer_command(alloc, command, input.as_slice(), told),
         None => told.push_str("NO TEXT\n"),
-    }
-}
-
-/// What a row's command does.
-#[derive(Clone, Copy)]
-enum Command {
-    /// It runs the program.
-    Program,
-    /// It runs the program, and a read fails so.
-    Failed(ErrorKind),
-    /// It tells how a run ended.
-    Ended,
-    /// It asks parsers.
-    Parser,
-    /// It reads trees.
-    Tree,
-}
-
-/// The command of this name.
-fn command_of(name: &str) -> Option<Command> {
-    match name {
-        "facet_json_tool" => Some(Command::Program),
-        "broken_pipe" => Some(Command::Failed(ErrorKind::BrokenPipe)),
-        "out_of_memory" => Some(Command::Failed(ErrorKind::OutOfMemory)),
-        "ended" => Some(Command::Ended),
-        "parser" => Some(Command::Parser),
-        "tree" => Some(Command::Tree),
-        _ => None,
     }
 }
 
@@ -87,13 +58,14 @@ fn answer_command(
     told: &mut String,
 ) -> Result<(), AllocError> {
     let (name, rest) = first_word(command);
-    match command_of(name) {
-        Some(Command::Program) => answer_program(alloc, rest, input, told),
-        Some(Command::Failed(kind)) => answer_failed(alloc, kind, rest, input, told),
-        Some(Command::Ended) => answer_ended(alloc, rest, told),
-        Some(Command::Parser) => answer_parser(alloc, rest, input, told),
-        Some(Command::Tree) => compare(alloc, modes(rest), &[Way::Tree], input, told),
-        None => answer_part(alloc, name, rest, input, told),
+    match name {
+        "facet_json_tool" => answer_program(alloc, rest, input, told),
+        "broken_pipe" => answer_failed(alloc, ErrorKind::BrokenPipe, rest, input, told),
+        "out_of_memory" => answer_failed(alloc, ErrorKind::OutOfMemory, rest, input, told),
+        "ended" => answer_ended(alloc, rest, told),
+        "parser" => answer_parser(alloc, rest, input, told),
+        "tree" => compare(alloc, modes(rest), &[Way::Tree], input, told),
+        _ => answer_part(alloc, name, rest, input, told),
     }
 }
 
@@ -174,7 +146,7 @@ fn answer_program(
     let args = arguments(alloc, words)?;
     let mut reader = input;
     let mut written = Vec::new(alloc);
-    let outcome = run(alloc, args.as_slice(), &mut reader, &mut written);
+    let outcome = run_over(alloc, args.as_slice(), &mut reader, &mut written);
     write_end(alloc, outcome, written.as_slice(), told)?;
     let case = Case {
         args: args.as_slice(),
@@ -199,28 +171,21 @@ fn answer_failed(
     let args = arguments(alloc, words)?;
     let mut reader = FaultyReader::new(input, 1, kind);
     let mut written = Vec::new(alloc);
-    let outcome = run(alloc, args.as_slice(), &mut reader, &mut written);
+    let outcome = run_over(alloc, args.as_slice(), &mut reader, &mut written);
     write_end(alloc, outcome, written.as_slice(), told)
 }
 
 /// Writes what the program writes at a run's end in this way.
 fn answer_ended(alloc: Global, way: &str, told: &mut String) -> Result<(), AllocError> {
-    match ended(way) {
-        Some(outcome) => write_end(alloc, outcome, b"", told),
-        None => told.push_str("NO END\n"),
-    }
-}
-
-/// A run that ended in this way.
-fn ended(way: &str) -> Option<Outcome> {
-    match way {
-        "done" => Some(Outcome::Done),
-        "io" => Some(Outcome::Io),
-        "memory" => Some(OUT_OF_MEMORY),
-        "usage" => Some(Outcome::Usage),
-        "value" => Some(Outcome::Refused(5, Some(Span::new(1, 40)))),
-        _ => None,
-    }
+    let outcome = match way {
+        "done" => Outcome::Done,
+        "io" => Outcome::Io,
+        "memory" => OUT_OF_MEMORY,
+        "usage" => Outcome::Usage,
+        "value" => Outcome::Refused(5, Some(Span::new(1, 40))),
+        _ => return told.push_str("NO END\n"),
+    };
+    write_end(alloc, outcome, b"", told)
 }
 
 /// Writes what the program wrote to its standard output, then its line for the standard error, and its status where that isn't 0.

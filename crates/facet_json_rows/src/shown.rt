@@ -20,10 +20,16 @@ pub fn push(told: &mut String, text: &str, telling: Telling) -> Result<(), Alloc
     if matches!(telling, Telling::New) && told.as_str().ends_with(text) {
         return Ok(());
     }
-    if !told.is_empty() {
-        told.push_str("; ")?;
-    }
+    separate(told)?;
     told.push_str(text)
+}
+
+/// Separates what is told from what comes next.
+pub fn separate(told: &mut String) -> Result<(), AllocError> {
+    if told.is_empty() {
+        return Ok(());
+    }
+    told.push_str("; ")
 }
 
 /// Appends events, one after the other.
@@ -34,7 +40,7 @@ fn push_events(
     told: &mut String,
 ) -> Result<(), AllocError> {
     for event in events {
-        push(told, event_shown(alloc, event)?.as_str(), telling)?;
+        push_event(alloc, event, telling, told)?;
     }
     Ok(())
 }
@@ -53,16 +59,12 @@ pub fn push_answer(
             return Ok(());
         }
     }
-    push(told, answer_shown(alloc, answer)?.as_str(), telling)
-}
-
-/// The answer; of several events their number, or the refusal after them.
-fn answer_shown(alloc: Global, answer: &Answer<'_>) -> Result<String, AllocError> {
     let mut text = String::new(alloc);
     write_answer(answer, &mut text)?;
-    Ok(text)
+    push(told, text.as_str(), telling)
 }
 
+/// Writes an answer; of several events their number, or the refusal after them.
 fn write_answer(answer: &Answer<'_>, text: &mut String) -> Result<(), AllocError> {
     match answer {
         Answer::Event(Ok(Some(event))) => write_event(event, text),
@@ -92,17 +94,25 @@ fn write_span(name: &str, span: Span, text: &mut String) -> Result<(), AllocErro
     write!(text, "{name} {}+{}", span.offset, span.len)
 }
 
-fn event_shown(alloc: Global, event: &ParseEvent<'_>) -> Result<String, AllocError> {
+/// Appends an event.
+fn push_event(
+    alloc: Global,
+    event: &ParseEvent<'_>,
+    telling: Telling,
+    told: &mut String,
+) -> Result<(), AllocError> {
     let mut text = String::new(alloc);
     write_event(event, &mut text)?;
-    Ok(text)
+    push(told, text.as_str(), telling)
 }
 
+/// Writes an event and its span.
 fn write_event(event: &ParseEvent<'_>, text: &mut String) -> Result<(), AllocError> {
     write_kind(&event.kind, text)?;
     write_span("", event.span, text)
 }
 
+/// Writes what the event is.
 fn write_kind(kind: &ParseEventKind<'_>, text: &mut String) -> Result<(), AllocError> {
     match kind {
         ParseEventKind::StructStart(_) => text.push_str("{"),
@@ -114,26 +124,18 @@ fn write_kind(kind: &ParseEventKind<'_>, text: &mut String) -> Result<(), AllocE
     }
 }
 
+/// Writes a key.
 fn write_key(name: &str, text: &mut String) -> Result<(), AllocError> {
     write!(text, "key({name:?})")
 }
 
+/// Writes a scalar.
 fn write_scalar(value: &ScalarValue<'_>, text: &mut String) -> Result<(), AllocError> {
     write!(text, "{value:?}")
 }
 
-pub fn error_shown(alloc: Global, error: &ParseError<'_>) -> Result<String, AllocError> {
-    let mut text = String::new(alloc);
-    write_error(error, &mut text)?;
-    Ok(text)
-}
-
-fn write_error(error: &ParseError<'_>, text: &mut String) -> Result<(), AllocError> {
+/// Writes a refusal.
+pub fn write_error(error: &ParseError<'_>, text: &mut String) -> Result<(), AllocError> {
     write_shown("refused", &error.kind, text)?;
     write_span("", error.span, text)
-}
-
-/// So many bytes.
-pub fn bytes_shown(alloc: Global, count: usize) -> Result<String, AllocError> {
-    format!(in alloc; "{count} bytes")
 }

@@ -9,6 +9,16 @@ use std::alloc::{AllocError, Global};
 
 /// The tree of the text, or the leaf that its first word names; `some` is a list of such leaves, and `empty` one of empty containers.
 fn tree_of(alloc: Global, text: &str) -> Option<Tree> {
+    let (name, _) = first_word(text);
+    match name {
+        "some" => list_of(alloc, &LEAVES),
+        "empty" => list_of(alloc, &EMPTY),
+        _ => leaf_of(alloc, text),
+    }
+}
+
+/// The tree of the text, or the leaf that its first word names.
+fn leaf_of(alloc: Global, text: &str) -> Option<Tree> {
     match first_word(text) {
         ("unit", _) => Some(Tree::Unit),
         ("char", text) => Some(Tree::Char(text.chars().next()?)),
@@ -18,8 +28,6 @@ fn tree_of(alloc: Global, text: &str) -> Option<Tree> {
         ("literal", digits) => Some(Tree::Decimal(decimal_of(alloc, digits)?)),
         ("bytes", numbers) => Some(Tree::Bytes(bytes_of(alloc, numbers)?)),
         ("raw", text) => Some(Tree::Raw(String::from_str(alloc, text).ok()?)),
-        ("some", _) => some_leaves(alloc),
-        ("empty", _) => empty_ones(alloc),
         _ => tree_from_slice(alloc, text.as_bytes()).ok(),
     }
 }
@@ -33,34 +41,25 @@ fn bytes_of(alloc: Global, numbers: &str) -> Option<Vec<u8>> {
     Some(bytes)
 }
 
-/// A list of leaves that no document is read to.
-fn some_leaves(alloc: Global) -> Option<Tree> {
+/// Leaves that no document is read to.
+static LEAVES: [&str; 6] = [
+    "i64 -1",
+    "i64 5",
+    "u128 18446744073709551616",
+    "char x",
+    "unit",
+    "bytes 1 255",
+];
+
+/// An empty list, an empty object and bytes.
+static EMPTY: [&str; 3] = ["[]", "{}", "bytes 0 127"];
+
+/// A list of the trees of these texts.
+fn list_of(alloc: Global, texts: &[&str]) -> Option<Tree> {
     let mut items = Vec::new(alloc);
-    push_leaves(alloc, &mut items)?;
-    Some(Tree::List(items))
-}
-
-/// Appends leaves that no document is read to, or some of them where there is no memory for all.
-fn push_leaves(alloc: Global, items: &mut Vec<Tree>) -> Option<()> {
-    items.push(Tree::I64(-1)).ok()?;
-    items.push(Tree::I64(5)).ok()?;
-    items.push(Tree::U128(18446744073709551616)).ok()?;
-    items.push(Tree::Char('x')).ok()?;
-    items.push(Tree::Unit).ok()?;
-    items.push(tree_of_bytes(alloc)?).ok()
-}
-
-/// The bytes 1 and 255.
-fn tree_of_bytes(alloc: Global) -> Option<Tree> {
-    Some(Tree::Bytes(bytes_of(alloc, "1 255")?))
-}
-
-/// A list of an empty list, an empty object and bytes.
-fn empty_ones(alloc: Global) -> Option<Tree> {
-    let mut items = Vec::new(alloc);
-    items.push(Tree::List(Vec::new(alloc))).ok()?;
-    items.push(Tree::Pairs(Vec::new(alloc))).ok()?;
-    items.push(Tree::Bytes(bytes_of(alloc, "0 127")?)).ok()?;
+    for text in texts {
+        items.push(leaf_of(alloc, text)?).ok()?;
+    }
     Some(Tree::List(items))
 }
 

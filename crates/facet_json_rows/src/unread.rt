@@ -1,9 +1,9 @@
 //! Skips and captures at each place of an input.
 
-use crate::shown::{Telling, bytes_shown, error_shown, push};
+use crate::shown::{Telling, push, separate, write_error};
 use facet_format::{FormatParser, ParseError, Span};
 use facet_json::JsonParser;
-use std::alloc::{AllocError, Global};
+use std::alloc::AllocError;
 
 /// A call that passes what comes, its text unread.
 #[derive(Clone, Copy)]
@@ -12,10 +12,20 @@ pub enum Unread {
     Capture,
 }
 
+/// What such a call passes.
+#[derive(Clone, Copy)]
+pub enum Passed {
+    /// All up to this token.
+    Token(Span),
+    /// So many bytes of text.
+    Bytes(usize),
+    /// Nothing, in words.
+    Nothing(&'static str),
+}
+
 /// What the call does wherever an event of an input of so many bytes comes, and at the end: the last token after a skip, and how
 /// many bytes a capture answers. The events are passed one by one.
 pub fn tell_parts(
-    alloc: Global,
     parser: &mut JsonParser<'_>,
     call: Unread,
     is_peeked: bool,
@@ -23,8 +33,8 @@ pub fn tell_parts(
     told: &mut String,
 ) -> Result<(), AllocError> {
     for _ in 0..=len {
-        tell_part(alloc, call, is_peeked, parser, len, told)?;
-        if !matches!(parser.next_event(), Ok(Some(_))) {
+        tell_part(call, is_peeked, parser, len, told)?;
+        if !matches!(next_span(parser), Ok(Some(_))) {
             return Ok(());
         }
     }
@@ -33,7 +43,6 @@ pub fn tell_parts(
 
 /// What the call does where the parser stands, which stands there afterwards.
 fn tell_part(
-    alloc: Global,
     call: Unread,
     is_peeked: bool,
     parser: &mut JsonParser<'_>,
@@ -46,11 +55,7 @@ fn tell_part(
     if is_peeked {
         let _ = parser.peek_event();
     }
-    let text = passed(alloc, parser, call)?;
-    push(told, text.as_str(), Telling::All)?;
-    if text.starts_with("refused") && !is_refused_again(alloc, parser, call, text.as_str())? {
-        push(told, "not again", Telling::All)?;
-    }
+    tell_call(call, parser, told)?;
     if !is_within(parser, len) {
         push(told, "outside", Telling::All)?;
     }
@@ -58,10 +63,37 @@ fn tell_part(
     Ok(())
 }
 
+/// What the call does.
+fn tell_call(
+    call: Unread,
+    parser: &mut JsonParser<'_>,
+    told: &mut String,
+) -> Result<(), AllocError> {
+    separate(told)?;
+    match passed_by(parser, call) {
+        Ok(passed) => write_passed(passed, told),
+        Err(error) => tell_refusal(call, parser, &error, told),
+    }
+}
+
+/// That the call is refused so, and where this does not repeat.
+fn tell_refusal(
+    call: Unread,
+    parser: &mut JsonParser<'_>,
+    error: &ParseError<'static>,
+    told: &mut String,
+) -> Result<(), AllocError> {
+    write_error(error, told)?;
+    if is_refused_again(parser, call, error) {
+        return Ok(());
+    }
+    push(told, "not again", Telling::All)
+}
+
 /// Whether the last token, and a refusal that comes next, are of the first so many bytes.
 fn is_within(parser: &mut JsonParser<'_>, len: usize) -> bool {
-    let last = parser.current_span().unwrap_or(Span::new(0, 0));
-    let next = match parser.next_event() {
+    let last = last_span(parser).unwrap_or(Span::new(0, 0));
+    let next = match next_span(parser) {
         Err(error) => error.span,
         Ok(_) => last,
     };
@@ -70,47 +102,60 @@ fn is_within(parser: &mut JsonParser<'_>, len: usize) -> bool {
 
 /// Whether the call once more, and then the next event, are refused so.
 fn is_refused_again(
-    alloc: Global,
     parser: &mut JsonParser<'_>,
     call: Unread,
-    refusal: &str,
-) -> Result<bool, AllocError> {
-    if passed(alloc, parser, call)?.as_str() != refusal {
-        return Ok(false);
-    }
-    match parser.next_event() {
-        Err(error) => Ok(error_shown(alloc, &error)?.as_str() == refusal),
-        Ok(_) => Ok(false),
+    refusal: &ParseError<'static>,
+) -> bool {
+    let again = passed_by(parser, call);
+    match (again, next_span(parser)) {
+        (Err(again), Err(error)) => again == *refusal && error == *refusal,
+        _ => false,
     }
 }
 
-/// What the call passes, or its refusal.
-fn passed(alloc: Global, parser: &mut JsonParser<'_>, call: Unread) -> Result<String, AllocError> {
-    match call {
-        Unread::Skip => match parser.skip_value() {
-            Ok(()) => span_shown(alloc, parser),
-            Err(error) => error_shown(alloc, &error),
-        },
-        Unread::Capture => captured_shown(alloc, parser.capture_raw()),
+/// The next event's span, or the refusal.
+pub fn next_span(parser: &mut JsonParser<'_>) -> Result<Option<Span>, ParseError<'static>> {
+    match parser.next_event()? {
+        Some(event) => Ok(Some(event.span)),
+        None => Ok(None),
     }
 }
 
 /// The last token.
-pub fn span_shown(alloc: Global, parser: &JsonParser<'_>) -> Result<String, AllocError> {
-    match parser.current_span() {
-        Some(span) => format!(in alloc; "{}+{}", span.offset, span.len),
-        None => "no span".to_string(alloc),
+pub fn last_span(parser: &JsonParser<'_>) -> Option<Span> {
+    parser.current_span()
+}
+
+/// What the call passes, or its refusal.
+pub fn passed_by(parser: &mut JsonParser<'_>, call: Unread) -> Result<Passed, ParseError<'static>> {
+    match call {
+        Unread::Skip => skipped(parser),
+        Unread::Capture => captured(parser),
     }
 }
 
-/// How many bytes are captured, or the refusal.
-fn captured_shown(
-    alloc: Global,
-    captured: Result<Option<&str>, ParseError<'_>>,
-) -> Result<String, AllocError> {
-    match captured {
-        Ok(Some(text)) => bytes_shown(alloc, text.len()),
-        Ok(None) => "no raw text".to_string(alloc),
-        Err(error) => error_shown(alloc, &error),
+/// What a skip passes.
+fn skipped(parser: &mut JsonParser<'_>) -> Result<Passed, ParseError<'static>> {
+    parser.skip_value()?;
+    match last_span(parser) {
+        Some(span) => Ok(Passed::Token(span)),
+        None => Ok(Passed::Nothing("no span")),
+    }
+}
+
+/// What a capture passes.
+fn captured(parser: &mut JsonParser<'_>) -> Result<Passed, ParseError<'static>> {
+    match parser.capture_raw()? {
+        Some(text) => Ok(Passed::Bytes(text.len())),
+        None => Ok(Passed::Nothing("no raw text")),
+    }
+}
+
+/// Writes what is passed.
+pub fn write_passed(passed: Passed, told: &mut String) -> Result<(), AllocError> {
+    match passed {
+        Passed::Token(span) => write!(told, "{}+{}", span.offset, span.len),
+        Passed::Bytes(count) => write!(told, "{count} bytes"),
+        Passed::Nothing(words) => told.push_str(words),
     }
 }
