@@ -1,19 +1,22 @@
-//! The core of a message: its parts stay text, for whoever knows its method, and fields that it doesn't have are skipped.
+//! The core of a message: its parameters stay text, for whoever knows its method, and fields that it doesn't have are skipped.
 
 ghost use Rattle.std.specs.Prelude.{◌≤◌, ◌<◌, IfOk, OnSome};
 ghost use Rattle.facet_json.specs.Now.{ahead};
 
-use facet_json::{FormatParser, JsonParser, ParseError, ParseEvent, ParseEventKind};
+use facet_json::{
+    FormatParser, JsonParser, ParseError, ParseEvent, ParseEventKind, RawJson, ScalarValue,
+};
 use std::alloc::Global;
+use std::borrow::CowStr;
 
-/// A message, as `{"id":7,"method":"add","params":[1,2]}`: the text of each part, as it stands in the input. What it lacks is `None`.
-#[derive(Clone, Copy)]
+/// A message, as `{"id":7,"method":"add","params":[1,2]}`. What it lacks is `None`.
+#[derive(Drop)]
 pub struct Message<'de> {
-    /// By what it is answered.
-    pub id: Option<&'de str>,
+    /// The number by which it is answered.
+    pub id: Option<u64>,
     /// What is asked for.
-    pub method: Option<&'de str>,
-    /// The parameters.
+    pub method: Option<CowStr<'de>>,
+    /// The parameters, as they stand in the input.
     pub params: Option<&'de str>,
 }
 
@@ -26,17 +29,22 @@ enum Field {
     Unknown,
 }
 
-/// Reads a message.
+/// Reads a message. What is no number or text where one belongs is left out.
 pub fn read_message<'de>(
     alloc: Global,
     input: &'de [u8],
 ) -> Result<Message<'de>, ParseError<'static>> {
+    message_of(&mut JsonParser::new(alloc, input))
+}
+
+/// Reads the message that comes.
+fn message_of<'de>(parser: &mut JsonParser<'de>) -> Result<Message<'de>, ParseError<'static>> {
     let mut message = Message {
         id: None,
         method: None,
         params: None,
     };
-    read_fields(&mut JsonParser::new(alloc, input), &mut message)?;
+    read_fields(parser, &mut message)?;
     Ok(message)
 }
 
@@ -84,10 +92,58 @@ fn read_field<'de>(
     ensures { ahead parser.new ≤ ahead parser.old }
 {
     match field {
-        Field::Id => message.id = parser.capture_raw()?,
-        Field::Method => message.method = parser.capture_raw()?,
+        Field::Id => message.id = read_number(parser)?,
+        Field::Method => message.method = read_text(parser)?,
         Field::Params => message.params = parser.capture_raw()?,
         Field::Unknown => parser.skip_value()?,
     }
     Ok(())
+}
+
+/// The number that comes next; another value is skipped.
+fn read_number(parser: &mut JsonParser<'_>) -> Result<Option<u64>, ParseError<'static>>
+    ensures { ahead parser.new ≤ ahead parser.old }
+{
+    let number = match parser.peek_event()? {
+        Some(event) => number_of(&event),
+        None => None,
+    };
+    parser.skip_value()?;
+    Ok(number)
+}
+
+/// The number that the event gives.
+fn number_of(event: &ParseEvent<'_>) -> Option<u64> {
+    match &event.kind {
+        ParseEventKind::Scalar(ScalarValue::U64(number)) => Some(*number),
+        _ => None,
+    }
+}
+
+/// The text that comes next; another value is skipped.
+fn read_text<'de>(parser: &mut JsonParser<'de>) -> Result<Option<CowStr<'de>>, ParseError<'static>>
+    ensures { ahead parser.new ≤ ahead parser.old }
+{
+    let text = match parser.peek_event()? {
+        Some(event) => text_of(event),
+        None => None,
+    };
+    parser.skip_value()?;
+    Ok(text)
+}
+
+/// The text that the event gives.
+fn text_of(event: ParseEvent<'_>) -> Option<CowStr<'_>> {
+    match event.kind {
+        ParseEventKind::Scalar(ScalarValue::Str(text)) => Some(text),
+        _ => None,
+    }
+}
+
+/// The parameters of a message as a value that is kept or passed on.
+pub fn params<'de>(message: &Message<'de>) -> Option<RawJson<'de>> {
+    match message.params {
+        Some(text) => Some(RawJson::new(text)),
+        None => None,
+    }
 }

@@ -9,9 +9,10 @@ ghost use Rattle.std.specs.Prelude.{◌≡◌, codes, IfOk, MatchResult};
 ghost use Rattle.facet_json.specs.Text.{default_options, text};
 ghost use Rattle.facet_json.specs.Tree.{Tree};
 ghost use Rattle.facet_json.specs.TypedTrees.{without_plus};
+ghost use Rattle.facet_json.specs.Write.{pretty_options};
 
 use facet_json::laws::document_comes_back;
-use facet_json::{JsonError, to_vec, tree_from_slice};
+use facet_json::{JsonError, to_vec, to_vec_pretty, tree_from_slice};
 use std::alloc::Global;
 
 /// The document that the input has, written anew: of ` [1,] x` it is `[1]`. It is one document again, whose tree is the same, but that `-0` is
@@ -27,4 +28,18 @@ pub fn rewritten(alloc: Global, input: &[u8]) -> Result<Vec<u8>, JsonError>
     document_comes_back();
     let tree = tree_from_slice(alloc, input)?;
     Ok(to_vec(alloc, &tree)?)
+}
+
+/// The same, each element on a line of its own.
+pub fn indented(alloc: Global, input: &[u8]) -> Result<Vec<u8>, JsonError>
+    ensures written { IfOk result (λ v. (root : Node) × (value : Tree) × IsDocument input.now plain root value
+        × (v.items ≡ text pretty_options 0 value)
+        × ((node : Node) × IsWholeDocument v.items node (without_plus value))) }
+    ensures only { (root : Node) (value : Tree) → IsDocument input.now plain root value
+        → MatchResult result (λ v. v.items ≡ text pretty_options 0 value)
+        (λ e. kind_code (error_kind_of e.kind) ≡ codes "json::out_of_memory") }
+{
+    document_comes_back();
+    let tree = tree_from_slice(alloc, input)?;
+    Ok(to_vec_pretty(alloc, &tree)?)
 }

@@ -3,7 +3,9 @@
 ghost use Rattle.std.specs.Prelude.{OnOk};
 ghost use Rattle.facet_json.specs.StrictDocument.{IsStrict};
 
-use facet_json::{DeserializeError, from_slice_strict};
+use crate::loops::count_left;
+use facet_json::scanner::{check_number_strict, check_string_strict};
+use facet_json::{DeserializeError, JsonParser, ParseError, from_slice_strict};
 use std::alloc::Global;
 
 /// The number that a message is, where it is nothing else: `7`, but neither `07` nor `7,`.
@@ -11,4 +13,15 @@ pub fn count<'t>(alloc: Global, message: &[u8]) -> Result<u64, DeserializeError<
     ensures { OnOk result (IsStrict message.now) }
 {
     from_slice_strict(alloc, message)
+}
+
+/// How many events a message has, where it is a text of RFC 8259 that can be read; nothing of it is kept.
+pub fn events(alloc: Global, message: &[u8]) -> Result<usize, ParseError<'static>> {
+    count_left(&mut JsonParser::new_strict(alloc, message))
+}
+
+/// Whether the content of a string, and a number, are those of RFC 8259: `a\n` and `-0.5` are, `\q` and `01` are not.
+pub fn are_strict(content: &[u8], number: &[u8]) -> bool {
+    check_string_strict(content, 0, content.len()).is_ok()
+        && check_number_strict(number, 0, number.len()).is_ok()
 }

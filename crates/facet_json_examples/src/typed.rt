@@ -1,6 +1,6 @@
-//! Values of types that are read.
+//! Values of types that are read and written.
 
-use facet_json::{DeserializeError, Documents, from_slice};
+use facet_json::{DeserializeError, Documents, JsonSerializeError, from_slice, to_vec};
 use std::alloc::Global;
 use std::collections::BTreeMap;
 
@@ -10,6 +10,11 @@ fn limits<'t>(
     input: &[u8],
 ) -> Result<BTreeMap<String, Option<u32>>, DeserializeError<'t>> {
     from_slice(alloc, input)
+}
+
+/// The text of ports: `[80,8080]`.
+fn text_of(alloc: Global, ports: &Vec<u16>) -> Result<Vec<u8>, JsonSerializeError> {
+    to_vec(alloc, ports)
 }
 
 /// The sum of numbers in a row: `1 2 39` has 42.
