@@ -1,5 +1,5 @@
 -- How a reader that decodes run by run is refused: with the first fault of the content (specs/Fault.antt).
-use Rattle.std.proofs.Common.{◌≡◌, ℕ, ◌+◌, ◌<◌, ◌≤◌, false, List, [], ◌∷◌, ◌++◌, length, take, drop, get_or, None, refl, sym, ap, subst, ◌∙◌, append_assoc, length-append, arith}
+use Rattle.std.proofs.Common.{◌≡◌, ℕ, ◌+◌, ◌<◌, ◌≤◌, false, List, [], ◌∷◌, ◌++◌, length, take, drop, get_or, None, Some, refl, sym, ap, subst, ◌∙◌, append_assoc, length-append, arith}
 use Rattle.std.specs.Prelude.{◌==◌, IsUtf8, slice_range}
 use Rattle.std.specs.Char.{encode_utf8}
 use Rattle.std.specs.Str.{IsValidUpTo, StartsWithNoChar}
@@ -12,7 +12,7 @@ use Rattle.facet_format.specs.Bytes.{backslash}
 use Rattle.facet_format.specs.Complaint.{Refusal, refusal_at}
 use Rattle.facet_format.specs.Span.{span_at}
 use Rattle.facet_json_token.specs.declared.fault.Fault.{Fault}
-use Rattle.facet_json_token.specs.Views.{told_refusal}
+use Rattle.facet_json_token.specs.Views.{told_refusal, scan_refusal}
 use Rattle.facet_json_token.specs.Decode.{Decodes, empty, piece}
 use Rattle.facet_json_token.specs.Decoded.{piece_at, decoded}
 use Rattle.facet_json_token.specs.Fault.{DecodeFault, decode_fault_at, fault_after, no_character, not_utf8, FirstFault, here, after, fault_complaint, fault_refusal}
@@ -139,6 +139,13 @@ step-lost buf out start stop end r a b h lost told so_far =
 -- What is refused has no text.
 pub told-no_text : (content : List ℕ) (start : ℕ) (r : Refusal) → IsFirstRefusal content start r → decoded content ≡ None
 told-no_text content start r t = fault-no_text content t.fault t.is_first
+
+-- Only a lack of memory refuses what has a text.
+pub refused-memory : (buffer text : List ℕ) (start finish : ℕ) (e : DecodeError) → RefusesContent buffer start finish e →
+    decoded (slice_range buffer start finish) ≡ Some text → e ≡ decode.OutOfMemory
+refused-memory buffer text start finish (decode.Scan e) refused has =
+    let none = told-no_text (slice_range buffer start finish) start (scan_refusal e) refused in absurd (cc)
+refused-memory buffer text start finish decode.OutOfMemory refused has = refl
 
 -- A decode that says so refuses the content.
 pub says-refuses : (buffer : List ℕ) (start finish : ℕ) (f : Fault) (e : DecodeError) → SaysScan f e →

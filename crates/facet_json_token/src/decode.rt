@@ -1,7 +1,7 @@
 //! Strings' contents to text (RFC 8259, section 7), in one pass: runs of bytes up to a backslash are checked and copied
 //! whole, and escapes between them are read one by one, in `escape`.
 
-ghost use Rattle.std.specs.Prelude.{◌≡◌, ℕ, ◌≤◌, ◌<◌, List, Some, None, true, false, length, slice_range, slice_index, string_bytes, IfOk, IfErr, IfSome, IsSome, IsUtf8, MatchOption, MatchResult};
+ghost use Rattle.std.specs.Prelude.{◌≡◌, ℕ, ◌≤◌, ◌<◌, List, [], Some, None, true, false, length, slice_range, slice_index, string_bytes, IfOk, IfErr, IfSome, IsSome, IsUtf8, MatchOption, MatchResult};
 ghost use Rattle.std.specs.Cow.{cow_str_bytes, IsOwnedStr, IsBorrowedStr};
 ghost use Rattle.facet_json_token.specs.declared.decode.DecodeError.TheVariants as refusal;
 ghost use Rattle.facet_format.specs.Bytes.{backslash};
@@ -109,6 +109,27 @@ fn decode_runs(
         → MatchResult result (λ s. string_bytes s ≡ text) (λ e. e ≡ DecodeError.OutOfMemory) }
 {
     let mut text = String::with_capacity(alloc, end - start)?;
+    match push_runs(&mut text, buf, start, end, trust) {
+        Ok(()) => Ok(text),
+        Err(error) => Err(error),
+    }
+}
+
+/// Appends the text of a content to one that is empty.
+fn push_runs(
+    text: &mut String,
+    buf: &[u8],
+    start: usize,
+    end: usize,
+    trust: Trust,
+) -> Result<(), DecodeError>
+    requires in_order { start ≤ end }
+    requires in_range { end ≤ length buf.now }
+    requires utf8 { trust ≡ Trust.Utf8 → IsUtf8 (slice_range buf.now start end) }
+    requires empty { string_bytes text.now ≡ [] }
+    ensures decodes { IfOk result (λ _. Decodes (slice_range buf.now start end) (string_bytes text.new)) }
+    ensures refused { IfErr result (λ e. RefusesContent buf.now start end e) }
+{
     let mut at = start;
     while at < end {
         if buf[at] == b'\\' {
@@ -121,7 +142,7 @@ fn decode_runs(
             at = stop;
         }
     }
-    Ok(text)
+    Ok(())
 }
 
 /// Whether the content of a string that stands in `buf[start..end]` has a text: the refusal of `decode_string_owned`

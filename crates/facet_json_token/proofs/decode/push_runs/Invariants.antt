@@ -3,7 +3,7 @@ use Rattle.std.proofs.Common.{◌≡◌, ◌-◌, ◌≤◌, string_bytes}
 use Rattle.std.specs.Prelude.{slice_range, IsUtf8}
 use Rattle.facet_json_token.specs.Decode.{Decodes}
 use Rattle.facet_json_token.specs.declared.mode.Trust.TheVariants.{Utf8}
-use Rattle.facet_json_token.proofs.decode.decode_runs.Given as goal
+use Rattle.facet_json_token.proofs.decode.push_runs.Given as goal
 
 abbrev pub invariant-loop-at : goal.invariant-loop-at
 invariant-loop-at l = record {
