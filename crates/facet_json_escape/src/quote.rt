@@ -4,7 +4,7 @@ ghost use Rattle.std.specs.Prelude.{◌≡◌, ◌+◌, ◌<◌, ◌≤◌, [], 
 ghost use Rattle.std.specs.Bool.{OnTrue};
 ghost use Rattle.std.specs.List.{flat_map, prefix_len};
 ghost use Rattle.std.specs.Simd.Lanes.{mask_l};
-ghost use Rattle.facet_format.specs.Bytes.{comma, colon};
+ghost use Rattle.facet_format.specs.Bytes.{comma, colon, quote};
 ghost use Rattle.facet_json_document.specs.Quoted.{escaped, quoted, hex_byte};
 ghost use Rattle.facet_json_document.specs.Quoted as spelled;
 ghost use Rattle.facet_json_escape.specs.Inner.Window as window;
@@ -87,11 +87,27 @@ fn push_long(
     ensures { OnOk result (out.new ≡ out.old
         ++ (cond after_comma (comma ∷ []) [] ++ (quoted text.now ++ cond before_colon (colon ∷ []) []))) }
 {
+    push_opening(out, after_comma)?;
+    push_content(out, text)?;
+    push_closing(out, before_colon)
+}
+
+/// Appends the quote before a text, after a comma if one is due.
+#[inline(always)]
+fn push_opening(out: &mut Sink, after_comma: bool) -> Result<(), AllocError>
+    ensures { OnOk result (out.new ≡ out.old ++ (cond after_comma (comma ∷ []) [] ++ quote ∷ [])) }
+{
     if after_comma {
         out.push(b',')?;
     }
-    out.push(b'"')?;
-    push_content(out, text)?;
+    out.push(b'"')
+}
+
+/// Appends the quote behind a text, and a colon behind a key's.
+#[inline(always)]
+fn push_closing(out: &mut Sink, before_colon: bool) -> Result<(), AllocError>
+    ensures { OnOk result (out.new ≡ out.old ++ (quote ∷ cond before_colon (colon ∷ []) [])) }
+{
     out.push(b'"')?;
     if before_colon {
         out.push(b':')?;
@@ -109,11 +125,10 @@ fn push_content(out: &mut Sink, bytes: &[u8]) -> Result<(), AllocError>
     let mut at = 0;
     while bytes.len() - at >= 16 {
         let stop = verbatim_end(bytes, at);
-        push_run(out, &bytes[at..stop])?;
         if stop == bytes.len() {
-            return Ok(());
+            return push_run(out, &bytes[at..stop]);
         }
-        push_escaped(out, bytes[stop])?;
+        push_run_and_escaped(out, &bytes[at..stop], bytes[stop])?;
         at = stop + 1;
     }
     push_content_bytewise(out, &bytes[at..])
@@ -127,8 +142,7 @@ fn push_content_bytewise(out: &mut Sink, bytes: &[u8]) -> Result<(), AllocError>
     let mut start = 0;
     for (i, byte) in bytes.iter().enumerate() {
         if needs_escape(*byte) {
-            push_run(out, &bytes[start..i])?;
-            push_escaped(out, *byte)?;
+            push_run_and_escaped(out, &bytes[start..i], *byte)?;
             start = i + 1;
         }
     }
@@ -144,6 +158,15 @@ fn push_run(out: &mut Sink, run: &[u8]) -> Result<(), AllocError>
         return Ok(());
     }
     out.extend_from_slice(run)
+}
+
+/// Appends bytes as they stand, and what stands for the byte behind them.
+#[inline(always)]
+fn push_run_and_escaped(out: &mut Sink, run: &[u8], byte: u8) -> Result<(), AllocError>
+    ensures { OnOk result (out.new ≡ (out.old ++ run.now) ++ escaped byte) }
+{
+    push_run(out, run)?;
+    push_escaped(out, byte)
 }
 
 /// Whether a byte cannot stand for itself between the quotes.
