@@ -74,9 +74,3 @@ feed-leaves None c part all p = tt
 feed-leaves (Some x) None part all p = absurd p
 feed-leaves (Some x) (Some y) part all p =
     sym (ap (drop_through 10) (p ∙ append_assoc part (10 ∷ []) y) ∙ drop_through-append 10 part (10 ∷ y) all)
-
--- One at its end has nothing after the line.
-pub end-leaves : (a c : Option (List ℕ)) → Consumes a c [] → IsAtEnd c → LeavesNext a c
-end-leaves None c p end = tt
-end-leaves (Some x) None p end = absurd p
-end-leaves (Some x) (Some y) p end = end ∙ sym (ap (drop_through 10) (p ∙ end))

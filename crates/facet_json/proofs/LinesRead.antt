@@ -61,20 +61,6 @@ first-then (Some x) (Some y) (Some z) p q h k = h ∙ ap (λ l. p ++ l) k ∙ sy
 
 -- ---- a line is begun or gone on with
 
-pub begun-between : (text after : List ℕ) (a : Option (List ℕ)) → after ≡ [] → ComeFirst (left_at Between text a) (left_at Within after a) []
-begun-between text after None none = tt
-begun-between text after (Some x) none = sym (ap (λ l. lines (l ++ x)) none)
-
-pub begun-past : (text after : List ℕ) (a b : Option (List ℕ)) → after ≡ [] → LeavesNext a b → ComeFirst (left_at Past text a) (left_at Within after b) []
-begun-past text after None b none h = tt
-begun-past text after (Some x) None none h = absurd h
-begun-past text after (Some x) (Some y) none h = ap lines (sym h ∙ ap (λ l. l ++ y) (sym none))
-
-pub still-past : (text after : List ℕ) (a b : Option (List ℕ)) → KeepsNext a b → ComeFirst (left_at Past text a) (left_at Past after b) []
-still-past text after None b h = tt
-still-past text after (Some x) None h = absurd h
-still-past text after (Some x) (Some y) h = ap lines (sym h)
-
 -- ---- a text grew
 
 -- Nothing was passed where a text grew.
@@ -107,15 +93,6 @@ last-line t u (Some x) (Some y) all some h end =
     let whole : t ++ x ≡ u =
     ap (λ l. t ++ l) (h.3 ∙ ap (λ l. l ++ y) (append-nil h.0) ∙ ap (λ l. h.0 ++ l) end ∙ append-nil h.0) ∙ sym h.1 in
     ap lines whole ∙ lines-last u (grown-one [] t u (Some x) (Some y) all h) some ∙ ap (λ l. u ∷ lines l) (sym end)
-
--- No line is left.
-pub no-line : (t u : List ℕ) (a b : Option (List ℕ)) → u ≡ [] → LineGrows [] a b t u → IfSome a (λ _. IsAtEnd b) → IfSome (left_at Within t a) (λ ls. ls ≡ [])
-no-line t u None b none h end = tt
-no-line t u (Some x) None none h end = absurd h.3
-no-line t u (Some x) (Some y) none h end =
-    let whole : t ++ x ≡ u =
-    ap (λ l. t ++ l) (h.3 ∙ ap (λ l. l ++ y) (append-nil h.0) ∙ ap (λ l. h.0 ++ l) end ∙ append-nil h.0) ∙ sym h.1 in
-    ap lines (whole ∙ none)
 
 -- The next line is longer than the limit.
 pub long-line : (limit : ℕ) (t u : List ℕ) (a b : Option (List ℕ)) → All (λ x. x ≢ 10) t → LineGrows [] a b t u → GoesPast limit a b u
@@ -189,21 +166,10 @@ blank-to a b c line h k = record {
   passed = subst (PassesLines a c) (sym (append_assoc h.blank k.blank (line ∷ []))) (passes-then a b c h.blank (k.blank ++ line ∷ []) h.passed k.passed);
 }
 
--- The line that was passed, with none before it.
-pub to-next : (a b : Lines) (line : List ℕ) → PassesLines a b (line ∷ []) → PassesTo a b line
-to-next a b line h = record { blank = []; all_blank = All-nil IsBlank; passed = h }
-
 -- The line that was passed is blank.
 pub one-blank : (a b : Lines) (line : List ℕ) → PassesLines a b (line ∷ []) → IsBlank line → PassesBlank a b
 one-blank a b line h is = record { blank = line ∷ []; all_blank = All-cons IsBlank line [] is (All-nil IsBlank); passed = h }
 
--- No line is left behind blank ones.
-pub blank-over : (a b c : Lines) → PassesBlank a b → PassesLines b c [] → IfSome b.left (λ ls. ls ≡ []) → HasNoLine a c
-blank-over a b c h k end = record {
-  blank = h.blank;
-  all_blank = h.all_blank;
-  passed = subst (PassesLines a c) (append-nil h.blank) (passes-then a b c h.blank [] h.passed k);
-  all = at a.left b.left h.passed.first end;
 }
   where
     at : (x y : Option (List (List ℕ))) → ComeFirst x y h.blank → IfSome y (λ ls. ls ≡ []) → IfSome x (λ ls. ls ≡ h.blank)

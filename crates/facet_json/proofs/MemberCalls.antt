@@ -72,27 +72,10 @@ end-left old begun new members step wrote =
 
 -- ---- within an object
 
-key-added : (o : Options) (name : List ℕ) (stack : List Opened) (a : Addition) → key_added o name stack ≡ Ok a → is_in_struct a.stack ≡ true
-key-added o name [] a e = absurd (cc)
-key-added o name (in_struct first ∷ around) a e = cc
-key-added o name (in_list first ∷ around) a e = absurd (cc)
-
 key-fits : (o : Options) (name : List ℕ) (stack : List Opened) (why : Misfit) → is_in_struct stack ≡ true → key_added o name stack ≡ Err why → ⊥
 key-fits o name [] why within e = cc
 key-fits o name (in_struct first ∷ around) why within e = cc
 key-fits o name (in_list first ∷ around) why within e = cc
-
-after-key : (old new : Option Writing) (name : List ℕ) (call : SerializerCall) (answer : Result (Unit {0}) WriteRefusal) → Appends old call answer new →
-    call ≡ field_key name → answer ≡ Ok tt → IsWithinStruct new
-after-key old new name call answer (appends w _ a can) is e =
-    key-added w.options name w.stack a (ap (addition w.options w.stack) (sym is) ∙ can)
-after-key old new name call answer (refuses w _ why cannot) is e = absurd (cc)
-after-key old new name call answer (runs_out w _ a can) is e = tt
-after-key old new name call answer (stays_out _) is e = tt
-
--- After a key the object is still open.
-pub key-within : (old new : Option Writing) (name : List ℕ) → Appends old (field_key name) (Ok tt) new → IsWithinStruct new
-key-within old new name step = after-key old new name (field_key name) (Ok tt) step refl refl
 
 key-lacks : (old new : Option Writing) (name : List ℕ) (call : SerializerCall) (answer : Result (Unit {0}) WriteRefusal) (why : WriteRefusal) → Appends old call answer new →
     call ≡ field_key name → answer ≡ Err why → IsWithinStruct old → (why ≡ out_of_memory) × (new ≡ None)
@@ -106,26 +89,3 @@ key-lacks old new name call answer why (stays_out _) is e within = (cc, refl)
 pub key-refused : (old new : Option Writing) (name : List ℕ) (why : WriteRefusal) → IsWithinStruct old → Appends old (field_key name) (Err why) new →
     (why ≡ out_of_memory) × (new ≡ None)
 key-refused old new name why within step = key-lacks old new name (field_key name) (Err why) why step refl refl within
-
-value-within : (stack : List Opened) → is_in_struct stack ≡ true → is_in_struct (after_written stack) ≡ true
-value-within [] within = within
-value-within (in_struct first ∷ around) within = refl
-value-within (in_list first ∷ around) within = cc
-
--- After a value too.
-pub tree-within : (old new : Option Writing) (t : Tree) → IsWithinStruct old → HasWritten old t new → IsWithinStruct new
-tree-within old new t within wrote =
-    subst IsWithinStruct (sym wrote.2) (value-within wrote.0.stack (subst IsWithinStruct wrote.1 within))
-
-after-begin : (old new : Option Writing) (call : SerializerCall) (answer : Result (Unit {0}) WriteRefusal) → Appends old call answer new → call ≡ begin_struct →
-    IsWithinStruct new
-after-begin old new call answer (appends w _ a can) is =
-    let begun = ap (addition w.options w.stack) (sym is) ∙ can in cc
-after-begin old new call answer (refuses w _ why cannot) is =
-    let begun = ap (addition w.options w.stack) (sym is) ∙ cannot in absurd (cc)
-after-begin old new call answer (runs_out w _ a can) is = tt
-after-begin old new call answer (stays_out _) is = tt
-
--- An object that is begun is open.
-pub begin-within : (old new : Option Writing) (answer : Result (Unit {0}) WriteRefusal) → Appends old begin_struct answer new → IsWithinStruct new
-begin-within old new answer step = after-begin old new begin_struct answer step refl

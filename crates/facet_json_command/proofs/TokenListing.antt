@@ -141,14 +141,6 @@ refusal_listed mode input tokens e a b all printed =
       ends = listed_ends tokens last.0 these.0 outcome listed ends;
     })
 
--- A line could not be printed.
-pub tokens_stopped : (mode : Mode) (input : List ℕ) (a b : Option (List ℕ)) (outcome : Outcome) → Stops a b outcome →
-    ListsTokens mode input a b outcome
-tokens_stopped mode input a b Done stops = absurd stops
-tokens_stopped mode input a b (Refused code span) stops = inl stops
-tokens_stopped mode input a b Io stops = tt
-tokens_stopped mode input a b Usage stops = stops
-
 -- ---- after the last line
 
 tokens_listed_keep : (mode : Mode) (input : List ℕ) (a b c : Option (List ℕ)) (outcome : Outcome) →

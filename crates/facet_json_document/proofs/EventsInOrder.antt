@@ -93,7 +93,3 @@ pub comes-sound : (language : Language) (buffer : List ℕ) (stack : List Contai
     position ≤ length buffer → IsSound buffer position (reads_by (rules language) buffer stack stage (tokens_in language buffer position))
 comes-sound language buffer stack stage position h =
     reads-sound (rules language) buffer _ stack stage position (tokens_in-in_order language buffer position h)
-
-pub position-sound : (buffer : List ℕ) (mode : Mode) (stack : List ContainerKind) (stage : Stage) (position : ℕ) →
-    position ≤ length buffer → IsSound buffer position (reads buffer stack stage (tokens_from buffer mode position))
-position-sound buffer mode stack stage position h = comes-sound (lenient mode) buffer stack stage position h

@@ -86,9 +86,6 @@ refused-next old new r free move = refused_step old new.cursor r _ free refl mov
 
 -- ---- all calls
 
-pub some-begin : (old : Now) → old.cursor.spot.peeked ≡ false → PassesSome old old
-some-begin old off = record { events = []; comes = refl; ends = refl; unpeeked = off }
-
 -- One event more.
 pub some-more : (old now new : Now) (e : Event) → PassesSome old now → Moves now next (event (Ok (Some e))) new → PassesSome old new
 some-more old now new e some move =

@@ -56,19 +56,6 @@ others-tokens _ text ps e = e
 -- ---- steps
 
 module _ (mode : Mode) (text : List ℕ) where
-  -- Nothing is written yet.
-  pub laid-start : all_tokens (pieces mode text) ≡ true → IsLaidOut mode text 0 sort.Nothing []
-  laid-start all = record { within = omega arith; written = []; came = refl; goes_on = λ k ends. refl; tokens = all }
-
-  -- White space is passed.
-  pub laid-blank : (at : ℕ) (last : Sort) (out : List ℕ) → at < length text → pieces mode (drop at text) ≡ pieces mode (drop (at + 1) text) →
-      IsLaidOut mode text at last out → IsLaidOut mode text (at + 1) last out
-  laid-blank at last out h same laid = record {
-    within = omega (arith, h);
-    written = laid.written;
-    came = laid.came ∙ ap (λ ps. laid.written ++ without_trailing_commas ps) same;
-    goes_on = laid.goes_on;
-    tokens = ap all_tokens (sym same) ∙ laid.tokens;
   }
 
   module _ (at end : ℕ) (last s : Sort) (out : List ℕ) (laid : IsLaidOut mode text at last out) (ahead : at ≤ end) (piece : BeginsPiece mode (drop at text) s (end - at)) where

@@ -33,13 +33,6 @@ same-views input held more (n ∷ nodes) h =
     ap₂ (λ m l. m ∷ l) (one-view input held more n (All-head (FindsHeld held) n nodes h))
     (same-views input held more nodes (All-tail (FindsHeld held) n nodes h))
 
-one-found : (held : List ScalarValue) (more : ScalarValue) (n : RustNode) → FindsHeld held n → FindsHeld (held ++ more ∷ []) n
-one-found held more n h = omega (arith, h, length_push held more)
-
--- So does a node find its own.
-pub still-found : (held : List ScalarValue) (more : ScalarValue) (nodes : List RustNode) → All (FindsHeld held) nodes → All (FindsHeld (held ++ more ∷ [])) nodes
-still-found held more = All-weaker (FindsHeld held) (FindsHeld (held ++ more ∷ [])) (one-found held more)
-
 -- A value that is pushed stands at the end.
 pub pushed-there : (held new : List ScalarValue) (x : ScalarValue) (at : ℕ) → at ≡ length held → new ≡ held ++ x ∷ [] →
     (at < length new) × (slice_get new at ≡ Some x)

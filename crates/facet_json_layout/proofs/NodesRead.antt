@@ -44,16 +44,6 @@ adds-more old now new was is some told =
       nodes = told.2 ∙ ap (added told.0.kind told.0.span) some.nodes ∙ sym (added-append some.events (p ∷ []) (none_yet old.buffer));
     }
 
--- Then the end.
-pub adds-all : (old now new : Now) (was is : NodesSoFar) → AddsSome old now was → AddsNext false now new was is → AddsAll old is.nodes
-adds-all old now new was is some told =
-    let over = next-over now new told.0 in
-    record {
-      events = some.events;
-      comes = some.comes ∙ ap (events_before some.events) over.over;
-      made = ap (λ (s : NodesSoFar). s.nodes) (told.1 ∙ some.nodes);
-    }
-
 -- Or a refusal.
 pub adds-refused : (limit room : Option ℕ) (old now new : Now) (was : NodesSoFar) (r : Refusal) → AddsSome old now was →
     SameBeyond (future_of old) limit (future_of now) room → now.buffer ≡ old.buffer → now.cursor.refusal ≡ None →
@@ -64,11 +54,6 @@ adds-refused limit room old now new was r some level same free (inr (stops move)
   | inl lacks ↦ inl lacks
   | inr s ↦ inr (as_ever (stops-later old now some.events r some.comes same s) (level.same ∙ ap (λ f. beyond f room) s.comes))
 ]
-
--- At the end no container was opened beyond the limit.
-pub adds-shallow : (limit room : Option ℕ) (old now new : Now) (was is : NodesSoFar) → SameBeyond (future_of old) limit (future_of now) room →
-    AddsNext false now new was is → beyond (future_of old) limit ≡ None
-adds-shallow limit room old now new was is level told = level.same ∙ ap (λ f. beyond f room) (next-over now new told.0).over
 
 -- ---- one event within a depth
 

@@ -288,10 +288,6 @@ member-stands v at behind to m n name first is b second left further within =
       within = within;
     }
 
--- No key, no member.
-pub no-member : (v : Value) (at : ℕ) (n : Node) → NodeStands v at n → is_key n ≡ false → members 0 (from v at) ≡ []
-no-member v at n s e = ap (members 0) s.here ∙ members-none n (from v (suc at)) e
-
 -- A member that is found counts, but for one behind it.
 keep : (behind : Option (List Node)) (x : List Node) (before : Option (List Node)) → option_or (option_or behind (Some x)) before ≡ option_or behind (Some x)
 keep None x before = refl
@@ -326,11 +322,6 @@ tree-first v at to i = ap trees_from i.are
 pub pair-first : (v : Value) (at to : ℕ) (name : List ℕ) → MemberStands v at name to →
     pairs_at v at ≡ trees.pair name (first_value (from v (suc at))) (pairs_at v to)
 pair-first v at to name m = ap pairs_from m.are
-
--- What is left of the items, and of the members.
-pub item-left : (v w : Value) (at to : ℕ) → IsItem v at to → w.document.now ≡ v.document.now → w.index ≡ at →
-    items 0 (from v at) ≡ nodes_from w ∷ items 0 (from v to)
-item-left v w at to i same index = i.are ∙ ap (λ x. x ∷ items 0 (from v to)) (sym (nodes-at v w at same index))
 
 pub member-left : (v w : Value) (at to behind : ℕ) (name : List ℕ) → MemberStands v at name to → w.document.now ≡ v.document.now → w.index ≡ behind → behind ≡ suc at →
     members 0 (from v at) ≡ (name, nodes_from w) ∷ members 0 (from v to)

@@ -24,20 +24,6 @@ one-more : {X Y : Type 0} (f : X → Y) (xs : List X) (x : X) (y : Y) (rest : Li
 one-more f [] x y rest e = ap (λ z. z ∷ rest) (sym e)
 one-more f (z ∷ xs) x y rest e = ap (λ l. f z ∷ l) (one-more f xs x y rest e)
 
-pub item-copied : (v w : Value) (copies : List RustTree) (at to : ℕ) (copy : RustTree) → ItemsCopied v copies at → IsItem v at to →
-    tree_view copy ≡ value_view w → w.document.now ≡ v.document.now → w.index ≡ at → ItemsCopied v (copies ++ copy ∷ []) to
-item-copied v w copies at to copy so item same nodes index =
-    let seen : tree_view copy ≡ first_value (from v at) = same ∙ ap first_value (nodes-at v w at nodes index) in
-    so ∙ ap (λ ts. map tree_view copies ++ trees_list ts) (tree-first v at to item) ∙ one-more tree_view copies copy _ _ seen
-
-pub member-copied : (v w : Value) (copies : List (String Global × RustTree)) (at behind to : ℕ) (name : List ℕ) (text : String Global)
-    (copy : RustTree) → MembersCopied v copies at → MemberStands v at name to → string_bytes text ≡ name → tree_view copy ≡ value_view w →
-    w.document.now ≡ v.document.now → w.index ≡ behind → behind ≡ suc at → MembersCopied v (copies ++ (text, copy) ∷ []) to
-member-copied v w copies at behind to name text copy so member named same nodes index b =
-    let seen : tree_view copy ≡ first_value (from v (suc at)) = same ∙ ap first_value (nodes-at v w (suc at) nodes (index ∙ b)) in
-    so ∙ ap (λ ps. map member_seen copies ++ pairs_list ps) (pair-first v at to name member)
-    ∙ one-more member_seen copies (text, copy) _ _ (ap₂ (λ n t. (n, t)) named seen)
-
 all-items : (copies : List RustTree) (ts : Trees) → trees_list ts ≡ map tree_view copies → trees_view copies ≡ ts
 all-items [] no_trees e = refl
 all-items [] (tree t ts) e = cc

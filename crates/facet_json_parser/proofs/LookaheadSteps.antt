@@ -85,16 +85,6 @@ module _ (buffer : List ℕ) (language : Language) where
   lent-spot : (f g : Lookahead) (e : Event) (l : Lends f e g) → spot_of g ≡ peeked_at (spot_of f)
   lent-spot f g e l = rw (l.new, l.held) refl
 
-  -- The event is held, shown or not.
-  shown-filled : (reader : Reader) (held : Option Passed) (was is : Bool) →
-      HoldsWhatComes buffer language (record { reader = reader; held = held; shown = was }) →
-      HoldsWhatComes buffer language (record { reader = reader; held = held; shown = is })
-  shown-filled reader None was is filled = tt
-  shown-filled reader (Some p) was is filled = record { rest = filled.rest; comes = filled.comes; opened = filled.opened }
-
-  pub lent-sound : (f g : Lookahead) (e : Event) → IsSound buffer language f → Lends f e g → IsSound buffer language g
-  lent-sound f g e good l = rw l.new (record { within = good.within; filled = shown-filled f.reader f.held f.shown true good.filled })
-
   pub lent-shows : (f g : Lookahead) (e : Event) → HoldsWhatComes buffer language f → Lends f e g →
       ShowsOne w (spot_of f) (Ok (Some e)) (spot_of g)
   lent-shows f g e filled l =
@@ -214,12 +204,6 @@ module _ (buffer : List ℕ) (language : Language) where
       QueuesOne w (spot_of f) (Ok (option_map event_of o)) (spot_of g)
   take-queues f g None filled over taken = rw taken.0 (queues_the_end (ap first_of (over taken.1)))
   take-queues f g (Some e) filled over taken = taken-queues f g (event_of e) filled taken
-
-  -- An event is shown, or none at the end.
-  pub lend-sound : (f g : Lookahead) (o : Option ParseEvent) → IsSound buffer language f →
-      MatchOption o ((g ≡ f) × (f.held ≡ None)) (λ e. Lends f (event_of e) g) → IsSound buffer language g
-  lend-sound f g None good lent = rw lent.0 good
-  lend-sound f g (Some e) good lent = lent-sound f g (event_of e) good lent
 
   pub lend-shows : (f g : Lookahead) (o : Option ParseEvent) → HoldsWhatComes buffer language f →
       (f.held ≡ None → future_at buffer language (reader_before f) ≡ finished) →

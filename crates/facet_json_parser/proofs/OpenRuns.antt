@@ -18,11 +18,6 @@ abbrev pub left_of : List ContainerKind → ℕ → ℕ
 left_of [] n = 0
 left_of (kind ∷ around) n = suc n
 
-pub shrinks : (before after : List ContainerKind) (a b : ℕ) → AreOpen before → (AreOpen after → b < a) → left_of after b < left_of before a
-shrinks [] after a b h less = absurd h
-shrinks (kind ∷ around) [] a b h less = omega arith
-shrinks (kind ∷ around) (k ∷ others) a b h less = omega (arith, less tt)
-
 -- An innermost bracket is open.
 pub opened : (o : Option RustContainerKind) (stack : List ContainerKind) → innermost_of o stack → is_some o ≡ true → AreOpen stack
 opened None stack h e = cc

@@ -43,12 +43,6 @@ pub first-ready : (buffer : List ℕ) (language : Language) (f : Lookahead) (kep
 first-ready buffer language f kept e g =
     rw (e, g) (record { stands = record { within = omega arith; filled = tt }; refused = tt; keeps = tt; counter_fits = omega arith })
 
--- It holds with another lookahead.
-pub stands-ready : (buffer : List ℕ) (language : Language) (f g : Lookahead) (refusal : Option Refusal) (points : List (ℕ × Lookahead)) (counter : ℕ) →
-    IsReady buffer language f refusal points counter → IsSound buffer language g → IsReady buffer language g refusal points counter
-stands-ready buffer language f g refusal points counter ready good =
-    record { stands = good; refused = ready.refused; keeps = ready.keeps; counter_fits = ready.counter_fits }
-
 points-within : (buffer : List ℕ) (language : Language) (counter : ℕ) (points : List (ℕ × Lookahead)) → ArePoints buffer language counter points →
     All (λ point. ReaderWithin buffer point.1.place) (map kept_spot points)
 points-within buffer language counter [] are = All-nil (λ p. ReaderWithin buffer p.1.place)

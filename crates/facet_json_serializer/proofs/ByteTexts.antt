@@ -12,14 +12,3 @@ indents-one_more (suc n) indent = append_assoc indent (indents n indent) indent 
 abbrev pub numbers_on : Bool → List ℕ → List ℕ
 numbers_on true bytes = numbers bytes
 numbers_on false bytes = more_numbers bytes
-
--- one of them is a separator and its digits
-pub numbers_on-step : (first : Bool) (b : ℕ) (others : List ℕ)
-    → numbers_on first (b ∷ others) ≡ separator first ++ decimal b ++ numbers_on false others
-numbers_on-step true b others = refl
-numbers_on-step false b others = refl
-
--- none is nothing
-pub numbers_on-end : (first : Bool) → numbers_on first [] ≡ []
-numbers_on-end true = refl
-numbers_on-end false = refl

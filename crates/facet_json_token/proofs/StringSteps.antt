@@ -57,10 +57,6 @@ wrong-run (suc k) m (b ∷ xs) h =
 pub wrong-control : (b : ℕ) (xs : List ℕ) → nat_le 0x20 b ≡ false → wrong_at false (b ∷ xs) ≡ Some 0
 wrong-control b xs e = rw e refl
 
--- A backslash alone is none.
-pub wrong-lone : wrong_at false (backslash ∷ []) ≡ None
-wrong-lone = refl
-
 -- So is the byte after a backslash, where it may not stand there.
 pub wrong-escaped : (b : ℕ) (xs : List ℕ) → may_stand true b ≡ false → wrong_at false (backslash ∷ b ∷ xs) ≡ Some 1
 wrong-escaped b xs e = rw e refl

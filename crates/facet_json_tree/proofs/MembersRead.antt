@@ -35,16 +35,6 @@ pub pairs_before-none : (ms : List (String Global × RustTree)) →
 pairs_before-none [] = refl
 pairs_before-none (m ∷ ms) = ap (pair (string_bytes m.0) (tree_view m.1)) (pairs_before-none ms)
 
--- An event that is neither a key nor the end of an object isn't so in the definitions.
-pub not_member : (kind : ParseEventKind) → kind ≢ kinds.StructEnd → ((key : FieldKey) → kind ≢ kinds.FieldKey key) →
-    is_member (event_kind_of kind) ≡ false
-not_member (kinds.StructStart c) h k = refl
-not_member kinds.StructEnd h k = absurd (h refl)
-not_member (kinds.SequenceStart c) h k = refl
-not_member kinds.SequenceEnd h k = refl
-not_member (kinds.FieldKey key) h k = absurd (k key refl)
-not_member (kinds.Scalar v) h k = refl
-
 -- Between the start and here these members were passed.
 pub record MembersPassed (start here : Future) (members : List (List ℕ × Tree)) : Type 0 where
   pub told : (all : Pairs) (rest : Future) → TellsMembers start all rest →

@@ -20,18 +20,9 @@ pub unread-same : {V : Type 0} {tells : Future → V → Future → Type 0} {bre
     {a b : List ℕ} {f : Future} {r : Refusal} → a ≡ b → IsUnreadBy V tells breaks a f r → IsUnreadBy V tells breaks b f r
 unread-same {V = V} {tells = tells} {breaks = breaks} {f = f} {r = r} e h = subst (λ x. IsUnreadBy V tells breaks x f r) e h
 
--- It is read from what comes.
-pub unread-at : {V : Type 0} {tells : Future → V → Future → Type 0} {breaks : Place → Tokens → Future → Type 0}
-    {buffer : List ℕ} {f g : Future} {r : Refusal} → f ≡ g → IsUnreadBy V tells breaks buffer g r → IsUnreadBy V tells breaks buffer f r
-unread-at {V = V} {tells = tells} {breaks = breaks} {buffer = buffer} {r = r} e h = subst (λ x. IsUnreadBy V tells breaks buffer x r) (sym e) h
-
 pub read-at : {V : Type 0} {tells : Future → V → Future → Type 0} {breaks : Place → Tokens → Future → Type 0}
     {f g rest : Future} {value : V} → f ≡ g → IsReadBy V tells breaks g value rest → IsReadBy V tells breaks f value rest
 read-at {V = V} {tells = tells} {breaks = breaks} {rest = rest} {value = value} e h = subst (λ x. IsReadBy V tells breaks x value rest) (sym e) h
-
--- A parser that isn't refused has gone on by nothing.
-pub went-none : (now : Now) → now.cursor.refusal ≡ None → WentOn now now
-went-none now free = record { free = free; onward = omega arith }
 
 -- After an event and what goes on from it no more bytes are ahead.
 pub went-behind : (a b c d : Now) → WentOn a b → ahead c < ahead b → WentOn c d → WentOn a d

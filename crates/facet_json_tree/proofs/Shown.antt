@@ -83,7 +83,3 @@ pub members-end : (first : Bool) → members_text default_options 0 first no_pai
 unfolding members_text
 members-end true = refl
 members-end false = refl
-
-pub numbers-end : (first : Bool) → numbers_after first [] ≡ []
-numbers-end true = refl
-numbers-end false = refl

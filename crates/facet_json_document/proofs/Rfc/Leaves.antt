@@ -9,9 +9,6 @@ use Rattle.facet_json_document.specs.RfcText.{is_escapable, is_hex_digit}
 pub hex-is_digit : (c : ℕ) → is_hex c ≡ true → is_hex_digit c ≡ true
 hex-is_digit c e = grind (arith, nat_tests)
 
-pub digit-is_hex : (c : ℕ) → is_hex_digit c ≡ true → is_hex c ≡ true
-digit-is_hex c e = grind (arith, nat_tests)
-
 pub escape-is_escapable : (b c : ℕ) → short_escape b ≡ Some c → is_escapable b ≡ true
 unfolding short_escape
 escape-is_escapable b c e = grind (arith, nat_tests)

@@ -65,9 +65,6 @@ Begins cs = (others : List ℕ) → IsRfcContent others → IsRfcContent (cs ++ 
 abbrev BeginsWith : List ℕ → List ℕ → Type 0
 BeginsWith first others = InUtf8 Begins first × Stands others
 
-unescaped_from : (c : ℕ) → 0x20 ≤ c → (c == quote) ≡ false → (c == backslash) ≡ false → is_rfc_unescaped c ≡ true
-unescaped_from c h q n = rw (le-leb 0x20 c h, q, n) refl
-
 a_character : (c : ℕ) → IsScalar c → is_rfc_unescaped c ≡ true → InUtf8 Begins (encode_utf8 c)
 a_character c is may = record {
   characters = c ∷ [];

@@ -72,21 +72,6 @@ test-mask_l ms i = ap (λ x. x == 1) (bit_mask_l ms i) ∙ back (get_or ms i fal
     back true = refl
     back false = refl
 
--- a Bool as a word
-pub byte_lt : (c : Bool) → bool_byte c < 2 ^ 64
-byte_lt true = omega arith
-byte_lt false = omega arith
-
-pub test-byte_zero : (c : Bool) → test (bool_byte c) 0 ≡ c
-unfolding test
-test-byte_zero true = refl
-test-byte_zero false = refl
-
-pub test-byte_suc : (c : Bool) (i : ℕ) → i < 64 → test (bool_byte c) (suc i) ≡ false
-unfolding test
-test-byte_suc true i h = same_is _ _ (upto_sound (λ j. same (test 1 (suc j)) false) 64 tt i h)
-test-byte_suc false i h = same_is _ _ (upto_sound (λ j. same (test 0 (suc j)) false) 64 tt i h)
-
 abbrev pub spread : Bool → ℕ
 spread c = (0 + (2 ^ 64 - bool_byte c)) % 2 ^ 64
 

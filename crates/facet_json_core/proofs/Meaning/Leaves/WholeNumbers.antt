@@ -21,32 +21,7 @@ use Rattle.facet_json_core.proofs.Meaning.Leaves.LeafLaws.{leaf-back}
 
 -- ---- a reading of a reading
 
-and_then-and_then : {A Z V : Type 0} (f : Z → Option V) (value : A → Option Z) (o : Option A) →
-    option_and_then (λ t. option_and_then f (value t)) o ≡ option_and_then f (option_and_then value o)
-and_then-and_then f value None = refl
-and_then-and_then f value (Some t) = refl
-
 module _ {Z V : Type 0} (f : Z → Option V) (value : Tree → Option Z) where
-  leaf-and_then : (buffer : List ℕ) (n : Node) → leaf (λ t. option_and_then f (value t)) buffer n ≡ option_and_then f (leaf value buffer n)
-  leaf-and_then buffer (scalar t) = and_then-and_then f value (meaning buffer t)
-  leaf-and_then buffer (node.array first last nodes) = refl
-  leaf-and_then buffer (node.object first last inside) = refl
-
-  pub read-and_then : (old new : Now) (z : Z) (v : V) → f z ≡ Some v → IsRead (leaf value) old z new →
-      IsRead (leaf (λ t. option_and_then f (value t))) old v new
-  read-and_then old new z v holds read w c n before =
-      let is = read w c n before in
-      (leaf-and_then w.bytes n ∙ ap (option_and_then f) is.0 ∙ holds, is.1)
-
-  pub read-none : (old new : Now) (z : Z) (r : Refusal) → f z ≡ None → IsRead (leaf value) old z new →
-      IsUnread (leaf (λ t. option_and_then f (value t))) old r
-  read-none old new z r holds read w c n before =
-      inr (leaf-and_then w.bytes n ∙ ap (option_and_then f) (read w c n before).0 ∙ holds)
-
-  pub unread-and_then : (old : Now) (r : Refusal) → IsUnread (leaf value) old r → IsUnread (leaf (λ t. option_and_then f (value t))) old r
-  unread-and_then old r unread w c n before = elim (unread w c n before) [
-    | inl lacks ↦ inl lacks
-    | inr none ↦ inr (leaf-and_then w.bytes n ∙ ap (option_and_then f) none)
   ]
 
 -- ---- which numbers a type holds

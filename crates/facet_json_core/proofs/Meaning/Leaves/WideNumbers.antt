@@ -126,25 +126,6 @@ signed_text-none t never = by (bytes_eq t (signed_decimal z)) refl
     by false e = refl
     by true e = signed-by z (λ h. never z h ((bytes_eq-Decides t (signed_decimal z)).0 e))
 
--- Where a number is parsed and written of it is the text again, it is the number that the text is.
-pub signed_text-parsed : {E : Type 0} (t : List ℕ) (r : Result ℤ E) (z : ℤ) → ParsesSigned w128 10 t r → r ≡ Ok z → signed_decimal z ≡ t →
-    signed_text t ≡ Some z
-signed_text-parsed t r z parses is same =
-    let p = OkIff-at_ok r _ _ z parses is in
-    let fits : FitsSigned w128 z = subst (FitsSigned w128) (sym p.1) p.0.1 in
-    subst (λ u. signed_text u ≡ Some z) same (signed_text-some z (wide-within z fits))
-
--- Where it is another text, the text is none.
-pub signed_text-other : {E : Type 0} (t : List ℕ) (r : Result ℤ E) (z : ℤ) → ParsesSigned w128 10 t r → r ≡ Ok z →
-    ¬ (signed_decimal z ≡ t) → signed_text t ≡ None
-signed_text-other t r z parses is other = signed_text-none t never
-  where
-    never : (y : ℤ) → FitsBits 127 y → t ≡ signed_decimal y → ⊥
-    never y h e =
-        let both : Ok z ≡ Ok y = sym is ∙ parse-signed_wide y t r h e parses in
-        let same : z ≡ y = cc in
-        other (ap signed_decimal same ∙ sym e)
-
 -- Where none is parsed, the text is none.
 pub signed_text-unparsed : {E : Type 0} (t : List ℕ) (r : Result ℤ E) (e : E) → ParsesSigned w128 10 t r → r ≡ Err e → signed_text t ≡ None
 signed_text-unparsed t r e parses is = signed_text-none t never

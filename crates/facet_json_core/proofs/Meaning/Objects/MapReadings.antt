@@ -56,10 +56,6 @@ module _ {V : Type 0} (reading : List ℕ → Node → Option V) where
     | inr is ↦ inr (no-map w.bytes n is)
   ]
 
-  -- Memory ran out.
-  pub map-lacks : (old : Now) (r : Refusal) → LacksMemory r → IsUnread (map_of reading) old r
-  map-lacks old r lacks w c n before = inl lacks
-
   -- With the first member's entry the others' are put in.
   pub first-is : (buffer : List ℕ) (key mark : Token) (value : Node) (rest : Members) (entries : Entries V) (name : List ℕ) (o : Option V) →
       text_in_tree (meaning buffer key) ≡ Some name → reading buffer value ≡ o →

@@ -203,24 +203,10 @@ key-comes now w c n (member key mark value rest) at =
     let first = key_event w.bytes key mark in
     record { first = first; at = drop-get w.events at.cursor.spot.place first _ at.comes; is = refl }
 
--- Where the next event is refused, no key comes.
-pub none-key : (old : Now) (r : Refusal) → LacksAlone old r → LacksKey old r
-none-key old r lacks = record { lacks = λ w c p stands free at is. lacks.lacks w c p stands free at }
-
 no-key : (o : Option (Option (List ℕ))) → o ≡ None → IsSome o → ⊥
 no-key None none is = cc
 no-key (Some key) none is = cc
 
--- Where the event that is passed is neither a key nor the end, or there is no memory for the key.
-pub other-key : (old new : Now) (given : Event) (r : Refusal) → WalksPast old given new → (r ≡ no_memory) ⊎ (key_or_end given.kind ≡ None) → LacksKey old r
-other-key old new given r walks (inl lacks) = record { lacks = λ w c p stands free at is. ap (λ (x : Refusal). x.complaint) lacks }
-other-key old new given r walks (inr none) = record {
-  lacks = λ w c p stands free at is.
-      let passed = walks w c stands free in
-      let both : Some p ≡ Some passed.passed = sym at ∙ passed.at_place in
-      let same : p ≡ passed.passed = cc in
-      let event_is : p.event ≡ given = ap (λ (x : Passed). x.event) same ∙ passed.same in
-      absurd (no-key (key_or_end p.event.kind) (ap (λ (e : Event). key_or_end e.kind) event_is ∙ none) is);
 }
 
 -- The end that comes next is the object's.

@@ -12,17 +12,9 @@ use Rattle.facet_json_core.specs.Meaning.Optional.{is_null_event}
 use Rattle.facet_json_core.specs.Meaning.Readings.{taken}
 
 module _ (old new : Now) where
-  pub list-opened : (k : EventKind) → begins_list k ≡ true → PassesByKind k old new → IsInside array old new
-  list-opened (sequence_start kind) b passed = passed
-  list-opened _ b passed = cc
-
   pub list-ended : (k : EventKind) → ends_list k ≡ true → PassesByKind k old new → PassesEndOf array old new
   list-ended sequence_end b passed = passed
   list-ended _ b passed = cc
-
-  pub object-opened : (k : EventKind) → begins_object k ≡ true → PassesByKind k old new → IsInside object old new
-  object-opened (struct_start kind) b passed = passed
-  object-opened _ b passed = cc
 
   -- A key, or the end of an object.
   pub member-passed : {K : Type 0} (text : K → List ℕ) (key : Option K) (k : EventKind) → key_or_end k ≡ Some (option_map text key) →
@@ -36,11 +28,6 @@ module _ (old new : Now) where
   pub null-passed : (k : EventKind) → is_null_event k ≡ true → PassesByKind k old new → PassesValue old new
   null-passed (scalar s) is passed = passed
   null-passed _ is passed = cc
-
-  pub taken-passed : {V : Type 0} (value : Tree → Option V) (k : EventKind) (v : V) → taken value k ≡ Some v → PassesByKind k old new →
-      PassesValue old new
-  taken-passed value (scalar s) v is passed = passed
-  taken-passed value _ v is passed = cc
 
   pub lent-passed : (k : EventKind) (text : List ℕ) → lent k ≡ Some text → PassesByKind k old new → PassesValue old new
   lent-passed (scalar s) text is passed = passed

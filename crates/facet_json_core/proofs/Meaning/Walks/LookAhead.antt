@@ -23,16 +23,6 @@ module _ (is : EventKind → Bool) where
         let shows = finds w c p stands free at in record { other = shows.shown ∙ not_found; spot = peeked_at c.spot; place = refl; stands = shows.stands };
   }
 
-  -- An event that is passed is one.
-  pub walks-takes : (old new : Now) (given : Event) → is given.kind ≡ true → WalksPast old given new → Takes is old new
-  walks-takes old new given so walks w c p stands free at =
-      let passed = walks w c stands free in
-      let same : passed.passed ≡ p = cc (passed.at_place, at) in
-      record {
-        so = ap (λ (x : Passed). is x.event.kind) (sym same) ∙ ap (λ (e : Event). is e.kind) passed.same ∙ so;
-        stands = passed.stands;
-      }
-
   -- So it is after a peek that found it.
   pub finds-takes : (old between new : Now) (given : Event) (found : Bool) → found ≡ true → Finds is old found between → WalksPast between given new →
       Takes is old new
