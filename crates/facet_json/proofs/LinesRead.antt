@@ -170,13 +170,6 @@ blank-to a b c line h k = record {
 pub one-blank : (a b : Lines) (line : List ℕ) → PassesLines a b (line ∷ []) → IsBlank line → PassesBlank a b
 one-blank a b line h is = record { blank = line ∷ []; all_blank = All-cons IsBlank line [] is (All-nil IsBlank); passed = h }
 
-}
-  where
-    at : (x y : Option (List (List ℕ))) → ComeFirst x y h.blank → IfSome y (λ ls. ls ≡ []) → IfSome x (λ ls. ls ≡ h.blank)
-    at None y first end = tt
-    at (Some x) None first end = absurd first
-    at (Some x) (Some y) first end = first ∙ ap (λ l. h.blank ++ l) end ∙ append-nil h.blank
-
 -- A refusal behind blank lines.
 pub blank-refused : (a b c : Lines) (e : LineError) → PassesBlank a b → TellsLine b c e → TellsLine a c e
 blank-refused a b c (TooLong n) h k =

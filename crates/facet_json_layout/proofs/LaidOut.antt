@@ -56,8 +56,6 @@ others-tokens _ text ps e = e
 -- ---- steps
 
 module _ (mode : Mode) (text : List ℕ) where
-  }
-
   module _ (at end : ℕ) (last s : Sort) (out : List ℕ) (laid : IsLaidOut mode text at last out) (ahead : at ≤ end) (piece : BeginsPiece mode (drop at text) s (end - at)) where
     -- the piece's bytes, and what is left after them
     abbrev bytes : List ℕ

@@ -19,11 +19,6 @@ use Rattle.facet_json_core.specs.Meaning.Reading.{IsRead, IsUnread}
 use Rattle.facet_json_core.specs.Meaning.Readings.{leaf, unsigned_in, signed_in, unsigned_of, signed_of}
 use Rattle.facet_json_core.proofs.Meaning.Leaves.LeafLaws.{leaf-back}
 
--- ---- a reading of a reading
-
-module _ {Z V : Type 0} (f : Z → Option V) (value : Tree → Option Z) where
-  ]
-
 -- ---- which numbers a type holds
 
 some-below : {A : Type 0} (n m : ℕ) (a : A) → n < m → cond (nat_lt n m) (Some a) None ≡ Some a

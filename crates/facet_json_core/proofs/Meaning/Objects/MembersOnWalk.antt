@@ -203,12 +203,6 @@ key-comes now w c n (member key mark value rest) at =
     let first = key_event w.bytes key mark in
     record { first = first; at = drop-get w.events at.cursor.spot.place first _ at.comes; is = refl }
 
-no-key : (o : Option (Option (List ℕ))) → o ≡ None → IsSome o → ⊥
-no-key None none is = cc
-no-key (Some key) none is = cc
-
-}
-
 -- The end that comes next is the object's.
 pub at-end : (now new : Now) (given : Event) (w : Source) (c : Cursor ℕ) (n : Node) (members : Members) → WalksPast now given new →
     key_or_end given.kind ≡ Some None → AtMembers now w c n members → (members ≡ no_members) × StandsAfter new w c n
