@@ -25,21 +25,34 @@ fn is_copied(alloc: Global, event: &ParseEvent<'_>) -> Option<bool> {
 
 /// The same of an event of this kind, which is made before.
 fn is_made_and_copied(alloc: Global, kind: Kind) -> Option<bool> {
-    is_copied(alloc, &made(alloc, kind)?)
+    match made(alloc, kind) {
+        Some(event) => is_copied(alloc, &event),
+        None => None,
+    }
 }
 
-/// A key and a scalar with a text of their own.
-static OWNED: [Kind; 2] = [Kind::OwnedKey("ab"), Kind::OwnedText("ab")];
-
-/// Kinds that hold nothing of their own.
-static SMALL: [Kind; 6] = [
-    Kind::Object,
-    Kind::ArrayEnd,
-    Kind::Scalar(Scalar::U128(2)),
-    Kind::Scalar(Scalar::Bytes(&[1, 255])),
-    Kind::Scalar(Scalar::Text("ab")),
-    Kind::Key("ab"),
+/// Kinds, and whether they hold something of their own.
+#[rattlefmt::skip]
+static KINDS: [(Kind, bool); 8] = [
+    (Kind::OwnedKey("ab"), true),
+    (Kind::OwnedText("ab"), true),
+    (Kind::Object, false),
+    (Kind::ArrayEnd, false),
+    (Kind::Scalar(Scalar::U128(2)), false),
+    (Kind::Scalar(Scalar::Bytes(&[1, 255])), false),
+    (Kind::Scalar(Scalar::Text("ab")), false),
+    (Kind::Key("ab"), false),
 ];
+
+/// Whether an event of this kind is copied; where it holds something of its own, but for one time at most in which memory ran out.
+fn holds(alloc: Global, kind: Kind, is_owned: bool) -> bool {
+    let first = is_made_and_copied(alloc, kind);
+    if is_owned {
+        but_once(first, is_made_and_copied(alloc, kind))
+    } else {
+        first == Some(true)
+    }
+}
 
 #[test]
 fn a_growth_is_refused_in_a_decimal_and_an_event(rt: HostRuntime) {
@@ -48,11 +61,7 @@ fn a_growth_is_refused_in_a_decimal_and_an_event(rt: HostRuntime) {
         let first = is_kept(alloc, row);
         assert!(rt; but_once(first, is_kept(alloc, row)), "{}", row.0);
     }
-    for &kind in &OWNED {
-        let first = is_made_and_copied(alloc, kind);
-        assert!(rt; but_once(first, is_made_and_copied(alloc, kind)));
-    }
-    for &kind in &SMALL {
-        assert!(rt; is_made_and_copied(alloc, kind) == Some(true));
+    for &(kind, is_owned) in &KINDS {
+        assert!(rt; holds(alloc, kind, is_owned));
     }
 }

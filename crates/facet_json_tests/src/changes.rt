@@ -3,12 +3,11 @@
 
 use crate::displayed::DISPLAYED;
 use crate::error_samples::is_displayed;
-use crate::lookups::{CHANGED, FOUND};
-use crate::merges::{MERGED, REPEATED};
+use crate::lookups::LOOKUPS;
+use crate::merges::MERGED;
 use crate::sorting::SORTED;
 use facet_json_tree::{NotStored, Tree, tree_from_slice};
 use std::alloc::{AllocError, Global};
-use std::process::Abort;
 
 /// A look at a value, or a change of it. What is stored is `false`.
 pub enum Change {
@@ -50,6 +49,7 @@ const NO_POINTER: &str = "no pointer";
 /// as it is.
 pub type Row = (&'static str, Change, &'static str, &'static str);
 
+#[rattlefmt::skip]
 static ROWS: [Row; 42] = [
     ("[]", Change::Push, "", "[false]"),
     ("[1,[2]]", Change::Push, "", "[1,[2],false]"),
@@ -58,40 +58,15 @@ static ROWS: [Row; 42] = [
     ("\"[]\"", Change::Push, WRONG_KIND, "\"[]\""),
     ("{}", Change::Insert("a"), "", r#"{"a":false}"#),
     (r#"{"a":1}"#, Change::Insert("a"), "1", r#"{"a":false}"#),
-    (
-        r#"{"a":1}"#,
-        Change::Insert("b"),
-        "",
-        r#"{"a":1,"b":false}"#,
-    ),
-    (
-        r#"{"a":1,"":[2],"c":3}"#,
-        Change::Insert(""),
-        "[2]",
-        r#"{"a":1,"":false,"c":3}"#,
-    ),
-    (
-        r#"{"a":1,"b":2,"a":3,"c":4}"#,
-        Change::Insert("a"),
-        "3",
-        r#"{"a":1,"b":2,"a":false,"c":4}"#,
-    ),
-    (
-        r#"{"b":{"a":1}}"#,
-        Change::Insert("a"),
-        "",
-        r#"{"b":{"a":1},"a":false}"#,
-    ),
+    (r#"{"a":1}"#, Change::Insert("b"), "", r#"{"a":1,"b":false}"#),
+    (r#"{"a":1,"":[2],"c":3}"#, Change::Insert(""), "[2]", r#"{"a":1,"":false,"c":3}"#),
+    (r#"{"a":1,"b":2,"a":3,"c":4}"#, Change::Insert("a"), "3", r#"{"a":1,"b":2,"a":false,"c":4}"#),
+    (r#"{"b":{"a":1}}"#, Change::Insert("a"), "", r#"{"b":{"a":1},"a":false}"#),
     ("[]", Change::Insert("a"), WRONG_KIND, "[]"),
     ("1", Change::Insert(""), WRONG_KIND, "1"),
     (r#"{"a":1}"#, Change::Remove("a"), "1", "{}"),
     (r#"{"a":1,"b":2}"#, Change::Remove("a"), "1", r#"{"b":2}"#),
-    (
-        r#"{"a":1,"b":2,"a":3,"c":{"a":4}}"#,
-        Change::Remove("a"),
-        "3",
-        r#"{"b":2,"c":{"a":4}}"#,
-    ),
+    (r#"{"a":1,"b":2,"a":3,"c":{"a":4}}"#, Change::Remove("a"), "3", r#"{"b":2,"c":{"a":4}}"#),
     (r#"{"a":1}"#, Change::Remove("A"), "", r#"{"a":1}"#),
     (r#"{"a":1}"#, Change::Remove(""), "", r#"{"a":1}"#),
     ("{}", Change::Remove("a"), "", "{}"),
@@ -106,59 +81,27 @@ static ROWS: [Row; 42] = [
     ("true", Change::RemoveItem(0), "", "true"),
     ("[1,2]", Change::Point(""), "false", "false"),
     ("[1,2]", Change::Point("/1"), "false", "[1,false]"),
-    (
-        r#"{"a":[0,{"b":[1,2]}],"c":3}"#,
-        Change::Point("/a/1/b/0"),
-        "false",
-        r#"{"a":[0,{"b":[false,2]}],"c":3}"#,
-    ),
-    (
-        r#"{"a":1,"a":{"b":2}}"#,
-        Change::Point("/a/b"),
-        "false",
-        r#"{"a":1,"a":{"b":false}}"#,
-    ),
-    (
-        r#"{"~1":1,"/":2}"#,
-        Change::Point("/~1"),
-        "false",
-        r#"{"~1":1,"/":false}"#,
-    ),
+    (r#"{"a":[0,{"b":[1,2]}],"c":3}"#, Change::Point("/a/1/b/0"), "false", r#"{"a":[0,{"b":[false,2]}],"c":3}"#),
+    (r#"{"a":1,"a":{"b":2}}"#, Change::Point("/a/b"), "false", r#"{"a":1,"a":{"b":false}}"#),
+    (r#"{"~1":1,"/":2}"#, Change::Point("/~1"), "false", r#"{"~1":1,"/":false}"#),
     ("[1,2]", Change::Point("/01"), "", "[1,2]"),
     ("[1,2]", Change::Point("1"), "no pointer", "[1,2]"),
     (r#"{"a":[1]}"#, Change::Lend("a"), "[1]", r#"{"a":null}"#),
     ("[]", Change::Lend("a"), WRONG_KIND, "[]"),
     ("null", Change::Lend(""), WRONG_KIND, "null"),
-    (
-        r#"{"a":1,"":2,"c":3}"#,
-        Change::Lend(""),
-        "2",
-        r#"{"a":1,"":null,"c":3}"#,
-    ),
+    (r#"{"a":1,"":2,"c":3}"#, Change::Lend(""), "2", r#"{"a":1,"":null,"c":3}"#),
     ("{}", Change::Lend("a"), "false", r#"{"a":null}"#),
-    (
-        r#"{"b":{"a":1}}"#,
-        Change::Lend("a"),
-        "false",
-        r#"{"b":{"a":1},"a":null}"#,
-    ),
-    (
-        r#"{"a":1,"b":2,"a":3,"c":4}"#,
-        Change::Lend("a"),
-        "3",
-        r#"{"a":1,"b":2,"a":null,"c":4}"#,
-    ),
+    (r#"{"b":{"a":1}}"#, Change::Lend("a"), "false", r#"{"b":{"a":1},"a":null}"#),
+    (r#"{"a":1,"b":2,"a":3,"c":4}"#, Change::Lend("a"), "3", r#"{"a":1,"b":2,"a":null,"c":4}"#),
 ];
-
-/// Whether the two are the same, and equal.
-fn are_same(tree: &Tree, wanted: &Tree) -> bool {
-    tree.is_same(wanted) && *tree == *wanted
-}
 
 /// Whether the tree is the document's; none where memory runs out.
 pub fn is_document(alloc: Global, tree: &Tree, document: &str) -> Option<bool> {
     match tree_from_slice(alloc, document.as_bytes()) {
-        Ok(wanted) => Some(are_same(tree, &wanted)),
+        Ok(wanted) => {
+            let is_equal = *tree == wanted;
+            Some(tree.is_same(&wanted) && is_equal)
+        }
         Err(_) => None,
     }
 }
@@ -173,10 +116,7 @@ pub fn is_value(alloc: Global, value: Option<&Tree>, wanted: &str) -> Option<boo
 
 /// The same of a value that was taken out.
 fn was_value(alloc: Global, value: Option<Tree>, wanted: &str) -> Option<bool> {
-    match value {
-        Some(value) => is_document(alloc, &value, wanted),
-        None => Some(wanted.is_empty()),
-    }
+    is_value(alloc, value.as_ref(), wanted)
 }
 
 /// Whether the value is there that becomes `false`, or there is none where nothing is wanted.
@@ -298,29 +238,26 @@ pub fn holds(alloc: Global, row: &Row) -> Option<bool> {
     }
 }
 
-/// Fails where a row does not hold.
-fn expect_held(rt: &impl Abort, alloc: Global, rows: &[Row]) {
-    for row in rows {
-        assert!(rt;
-            holds(alloc, row) == Some(true),
-            "{} {} {}",
-            row.0,
-            row.2,
-            row.3
-        );
-    }
+/// Whether `false` that was not stored is given back.
+fn is_taken_back() -> bool {
+    NotStored::WrongKind(Tree::U64(1)).into_value() == Tree::U64(1)
+        && NotStored::Memory(Tree::Null).into_value() == Tree::Null
 }
 
 #[test]
 fn a_look_or_a_change_is_answered_and_leaves_the_rest(rt: HostRuntime) {
     let alloc = rt.alloc();
-    expect_held(&rt, alloc, &ROWS);
-    expect_held(&rt, alloc, &FOUND);
-    expect_held(&rt, alloc, &CHANGED);
-    expect_held(&rt, alloc, &MERGED);
-    expect_held(&rt, alloc, &REPEATED);
-    expect_held(&rt, alloc, &SORTED);
-    expect_held(&rt, alloc, &DISPLAYED);
-    assert!(rt; NotStored::WrongKind(Tree::U64(1)).into_value() == Tree::U64(1));
-    assert!(rt; NotStored::Memory(Tree::Null).into_value() == Tree::Null);
+    for rows in [
+        ROWS.as_slice(),
+        LOOKUPS.as_slice(),
+        MERGED.as_slice(),
+        SORTED.as_slice(),
+        DISPLAYED.as_slice(),
+    ] {
+        for row in rows {
+            let holds = holds(alloc, row) == Some(true);
+            assert!(rt; holds, "{} {} {}", row.0, row.2, row.3);
+        }
+    }
+    assert!(rt; is_taken_back());
 }

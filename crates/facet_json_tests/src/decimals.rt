@@ -7,19 +7,11 @@ use std::alloc::{AllocError, Global};
 /// A text, that of another decimal, and whether the two are equal.
 pub type Row<'t> = (&'t str, &'t str, bool);
 
+#[rattlefmt::skip]
 static ROWS: [Row<'static>; 12] = [
-    ("1.", "1.", true),
-    ("-.5", "-.5", true),
-    ("1.e5", "1.e5", true),
-    ("0.0", "0.0", true),
-    ("5e-05", "5e-05", true),
-    ("-0.50", "-0.50", true),
-    ("1.0", "1.0", true),
-    ("3.14", "3.14", true),
-    ("1E-5", "1E-5", true),
-    ("-0.0e+0", "-0.0e+0", true),
-    ("1.0", "1.0", true),
-    ("1.0", "1.00", false),
+    ("1.", "1.", true), ("-.5", "-.5", true), ("1.e5", "1.e5", true), ("0.0", "0.0", true),
+    ("5e-05", "5e-05", true), ("-0.50", "-0.50", true), ("1.0", "1.0", true), ("3.14", "3.14", true),
+    ("1E-5", "1E-5", true), ("-0.0e+0", "-0.0e+0", true), ("1.0", "1.0", true), ("1.0", "1.00", false),
 ];
 
 /// Texts that are no decimals.
@@ -121,11 +113,18 @@ fn is_made_again(
 fn decimals_are_their_texts(rt: HostRuntime) {
     let alloc = rt.alloc();
     for row in &ROWS {
-        assert!(rt; is_kept(alloc, row) == Some(true), "{}", row.1);
-        assert!(rt; makes_owned(alloc, row.0, true) == Some(true), "{}", row.0);
+        let is_kept = is_kept(alloc, row) == Some(true);
+        assert!(rt;
+            is_kept && makes_owned(alloc, row.0, true) == Some(true),
+            "{}",
+            row.0
+        );
     }
     for &text in &REFUSED {
-        assert!(rt; Decimal::new(text).is_none(), "{text}");
-        assert!(rt; makes_owned(alloc, text, false) == Some(true), "{text}");
+        let is_none = Decimal::new(text).is_none();
+        assert!(rt;
+            is_none && makes_owned(alloc, text, false) == Some(true),
+            "{text}"
+        );
     }
 }

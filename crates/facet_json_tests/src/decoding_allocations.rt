@@ -103,22 +103,14 @@ fn is_lent(answer: &Result<CowStr<'_>, DecodeError>, content: &str) -> bool {
     }
 }
 
-/// The content, where no backslash stands in it.
-fn lent_of(content: &str) -> Option<&str> {
-    if content.contains('\\') {
-        None
-    } else {
-        Some(content)
-    }
-}
-
 /// Whether the decoders that lend the content do, but where a backslash stands in it, also those that are told that the bytes are a text.
 fn lends(alloc: Global, content: &str) -> bool {
     let buf = content.as_bytes();
     let end = buf.len();
     match str::from_utf8(&buf[0..end]) {
         Ok(_) => {
-            let wanted = lent_of(content);
+            let has_escape = content.contains('\\');
+            let wanted = if has_escape { None } else { Some(content) };
             let plain = decode_string_borrowed(buf, 0, end) == wanted;
             let text = decode_string_borrowed_unchecked(buf, 0, end) == wanted;
             let lent = is_lent(&decode_string(alloc, buf, 0, end, false), content);

@@ -4,29 +4,15 @@ use crate::changes::{Change, Row};
 
 /// A document, and how its value is shown: without white space, and with an escape for quotes, backslashes, DEL and characters below
 /// U+0020 alone.
+#[rattlefmt::skip]
 pub static DISPLAYED: [Row; 7] = [
     (" null ", Change::Display, "null", ""),
     ("[ true , false ]", Change::Display, "[true,false]", ""),
     ("[1,-2,1.50,2e+3]", Change::Display, "[1,-2,1.50,2e+3]", ""),
     ("[ ]", Change::Display, "[]", ""),
-    (
-        r#"{ "a" : {} , "" : [ [] , "b" ] }"#,
-        Change::Display,
-        r#"{"a":{},"":[[],"b"]}"#,
-        "",
-    ),
-    (
-        r#""\u0000\u001f\u007f\b\f\n\r\t\"\\\/""#,
-        Change::Display,
-        r#""\u0000\u001f\u007f\b\f\n\r\t\"\\/""#,
-        "",
-    ),
-    (
-        r#"{"\n\u00e9":"\ud83d\ude00\"中"}"#,
-        Change::Display,
-        r#"{"\né":"😀\"中"}"#,
-        "",
-    ),
+    (r#"{ "a" : {} , "" : [ [] , "b" ] }"#, Change::Display, r#"{"a":{},"":[[],"b"]}"#, ""),
+    (r#""\u0000\u001f\u007f\b\f\n\r\t\"\\\/""#, Change::Display, r#""\u0000\u001f\u007f\b\f\n\r\t\"\\/""#, ""),
+    (r#"{"\n\u00e9":"\ud83d\ude00\"中"}"#, Change::Display, r#"{"\né":"😀\"中"}"#, ""),
 ];
 
 /// How a list of a value of each kind is shown.

@@ -4,41 +4,24 @@
 
 use crate::error_samples::{Sample, Scan, is_labelled, made};
 use crate::twice::but_once;
-use facet_format::{DeserializeErrorKind, Span};
+use facet_format::{DeserializeErrorKind as Kind, Span};
 use facet_json_core::{JsonError, JsonErrorKind};
 use std::alloc::{AllocError, Global};
 
 /// A kind of each sort, and its label.
+#[rattlefmt::skip]
 static ROWS: [(Sample, &str); 31] = [
     (Sample::Scan(Scan::Char('x')), "unexpected 'x'"),
-    (
-        Sample::Scan(Scan::End("in string")),
-        "unexpected end of input in string",
-    ),
+    (Sample::Scan(Scan::End("in string")), "unexpected end of input in string"),
     (Sample::Scan(Scan::Utf8), "invalid UTF-8 here"),
-    (
-        Sample::ScanIn(Scan::Char('x'), "u32"),
-        "unexpected 'x', expected u32",
-    ),
-    (
-        Sample::ScanIn(Scan::End("in string"), "u32"),
-        "unexpected end of input, expected u32",
-    ),
+    (Sample::ScanIn(Scan::Char('x'), "u32"), "unexpected 'x', expected u32"),
+    (Sample::ScanIn(Scan::End("in string"), "u32"), "unexpected end of input, expected u32"),
     (Sample::ScanIn(Scan::Utf8, "u32"), "invalid UTF-8 here"),
     (Sample::Token("]", "value"), "expected value, got ']'"),
     (Sample::Expected("value"), "expected value"),
-    (
-        Sample::Mismatch("u32", "string"),
-        "expected u32, got string",
-    ),
-    (
-        Sample::Unknown("nmae", &["name", "age"], None),
-        "unknown field 'nmae'",
-    ),
-    (
-        Sample::Unknown("nmae", &["name", "age"], Some("name")),
-        "unknown field 'nmae' - did you mean 'name'?",
-    ),
+    (Sample::Mismatch("u32", "string"), "expected u32, got string"),
+    (Sample::Unknown("nmae", &["name", "age"], None), "unknown field 'nmae'"),
+    (Sample::Unknown("nmae", &["name", "age"], Some("name")), "unknown field 'nmae' - did you mean 'name'?"),
     (Sample::Missing("age"), "missing field 'age'"),
     (Sample::Value("too long"), "invalid value"),
     (Sample::Range("300", "u8"), "out of range for u8"),
@@ -48,63 +31,17 @@ static ROWS: [(Sample, &str); 31] = [
     (Sample::Io("disk full"), "I/O error"),
     (Sample::KeyOutside, "not written"),
     (Sample::OutOfMemory, "out of memory"),
-    (
-        Sample::Read(DeserializeErrorKind::UnexpectedChar {
-            ch: 'x',
-            expected: "valid JSON token",
-        }),
-        "expected valid JSON token",
-    ),
-    (
-        Sample::Read(DeserializeErrorKind::UnexpectedEof { expected: "value" }),
-        "unexpected end of input, expected value",
-    ),
-    (
-        Sample::Read(DeserializeErrorKind::UnexpectedEof {
-            expected: "in string",
-        }),
-        "unexpected end of input in string",
-    ),
-    (
-        Sample::Read(DeserializeErrorKind::InvalidUtf8),
-        "invalid UTF-8",
-    ),
-    (
-        Sample::Read(DeserializeErrorKind::UnexpectedToken {
-            got: "Comma",
-            expected: "value",
-        }),
-        "expected value, got 'Comma'",
-    ),
-    (
-        Sample::Read(DeserializeErrorKind::InvalidValue {
-            message: "too long",
-        }),
-        "invalid value",
-    ),
-    (
-        Sample::Read(DeserializeErrorKind::TypeMismatch {
-            expected: "u8",
-            got: "string",
-        }),
-        "expected u8, got string",
-    ),
-    (
-        Sample::Read(DeserializeErrorKind::NumberOutOfRange { target_type: "u8" }),
-        "out of range for u8",
-    ),
-    (
-        Sample::Read(DeserializeErrorKind::MissingField { field: "age" }),
-        "missing field 'age'",
-    ),
-    (
-        Sample::Read(DeserializeErrorKind::OutOfMemory),
-        "out of memory",
-    ),
-    (
-        Sample::Read(DeserializeErrorKind::SaveLimit),
-        "too many save points",
-    ),
+    (Sample::Read(Kind::UnexpectedChar { ch: 'x', expected: "valid JSON token" }), "expected valid JSON token"),
+    (Sample::Read(Kind::UnexpectedEof { expected: "value" }), "unexpected end of input, expected value"),
+    (Sample::Read(Kind::UnexpectedEof { expected: "in string" }), "unexpected end of input in string"),
+    (Sample::Read(Kind::InvalidUtf8), "invalid UTF-8"),
+    (Sample::Read(Kind::UnexpectedToken { got: "Comma", expected: "value" }), "expected value, got 'Comma'"),
+    (Sample::Read(Kind::InvalidValue { message: "too long" }), "invalid value"),
+    (Sample::Read(Kind::TypeMismatch { expected: "u8", got: "string" }), "expected u8, got string"),
+    (Sample::Read(Kind::NumberOutOfRange { target_type: "u8" }), "out of range for u8"),
+    (Sample::Read(Kind::MissingField { field: "age" }), "missing field 'age'"),
+    (Sample::Read(Kind::OutOfMemory), "out of memory"),
+    (Sample::Read(Kind::SaveLimit), "too many save points"),
 ];
 
 /// Whether the kind of the sample has this label, or memory runs out.

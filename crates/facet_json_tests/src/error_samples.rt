@@ -6,7 +6,6 @@ use facet_json_serializer::JsonSerializeError;
 use facet_json_token::ScanErrorKind;
 use std::alloc::{AllocError, Global};
 use std::fmt::Display;
-use std::process::Abort;
 
 /// What is wrong where no token stands.
 pub enum Scan {
@@ -164,16 +163,9 @@ fn is_told(alloc: Global, error: &JsonError, row: &Row) -> bool {
 }
 
 /// Whether an error of the row's kind is told so.
-fn holds(alloc: Global, row: &Row) -> bool {
+pub fn holds(alloc: Global, row: &Row) -> bool {
     match made(alloc, &row.0) {
         Ok(kind) => is_told(alloc, &JsonError::new(kind, Span::new(1, 1)), row),
         Err(AllocError) => false,
-    }
-}
-
-/// Fails where a kind isn't told as its row says.
-pub fn expect_told(rt: &impl Abort, alloc: Global, rows: &[Row]) {
-    for row in rows {
-        assert!(rt; holds(alloc, row), "{}", row.2);
     }
 }

@@ -37,7 +37,7 @@ pub enum Kind {
     ObjectEnd,
     Array,
     ArrayEnd,
-    Scalar(Scalar<'static>),
+    Scalar(Scalar),
     Key(&'static str),
     OwnedText(&'static str),
     OwnedKey(&'static str),
@@ -81,6 +81,7 @@ fn owned_decimal(alloc: Global, text: &str) -> Option<Decimal<'static>> {
 }
 
 /// Kinds, how they are shown, and whether their copies lend their text.
+#[rattlefmt::skip]
 static KINDS: [(Kind, &str, bool); 19] = [
     (Kind::Object, "StructStart(Object)", false),
     (Kind::ObjectEnd, "StructEnd", false),
@@ -88,47 +89,19 @@ static KINDS: [(Kind, &str, bool); 19] = [
     (Kind::ArrayEnd, "SequenceEnd", false),
     (Kind::Scalar(Scalar::Null), "Scalar(Null)", false),
     (Kind::Scalar(Scalar::Unit), "Scalar(Unit)", false),
-    (
-        Kind::Scalar(Scalar::Bool(true)),
-        "Scalar(Bool(true))",
-        false,
-    ),
+    (Kind::Scalar(Scalar::Bool(true)), "Scalar(Bool(true))", false),
     (Kind::Scalar(Scalar::Char('x')), "Scalar(Char('x'))", false),
     (Kind::Scalar(Scalar::I64(-1)), "Scalar(I64(-1))", false),
     (Kind::Scalar(Scalar::U64(1)), "Scalar(U64(1))", false),
     (Kind::Scalar(Scalar::I128(-2)), "Scalar(I128(-2))", false),
     (Kind::Scalar(Scalar::U128(2)), "Scalar(U128(2))", false),
-    (
-        Kind::Scalar(Scalar::Bytes(&[1, 255])),
-        "Scalar(Bytes([1, 255]))",
-        false,
-    ),
-    (
-        Kind::Scalar(Scalar::Text("ab")),
-        "Scalar(Str(\"ab\"))",
-        true,
-    ),
-    (
-        Kind::Scalar(Scalar::Decimal("1.50")),
-        "Scalar(Decimal(Decimal(\"1.50\")))",
-        false,
-    ),
-    (
-        Kind::Key("ab"),
-        "FieldKey(FieldKey { name: \"ab\", hint: KeyValue })",
-        false,
-    ),
+    (Kind::Scalar(Scalar::Bytes(&[1, 255])), "Scalar(Bytes([1, 255]))", false),
+    (Kind::Scalar(Scalar::Text("ab")), "Scalar(Str(\"ab\"))", true),
+    (Kind::Scalar(Scalar::Decimal("1.50")), "Scalar(Decimal(Decimal(\"1.50\")))", false),
+    (Kind::Key("ab"), "FieldKey(FieldKey { name: \"ab\", hint: KeyValue })", false),
     (Kind::OwnedText("c"), "Scalar(Str(\"c\"))", false),
-    (
-        Kind::OwnedKey("c"),
-        "FieldKey(FieldKey { name: \"c\", hint: KeyValue })",
-        false,
-    ),
-    (
-        Kind::OwnedDecimal("1.50"),
-        "Scalar(Decimal(Decimal(\"1.50\")))",
-        false,
-    ),
+    (Kind::OwnedKey("c"), "FieldKey(FieldKey { name: \"c\", hint: KeyValue })", false),
+    (Kind::OwnedDecimal("1.50"), "Scalar(Decimal(Decimal(\"1.50\")))", false),
 ];
 
 /// Whether an event of this kind is copied and shown so.

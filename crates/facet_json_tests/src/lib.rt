@@ -10,8 +10,6 @@ mod allocations;
 #[cfg(test)]
 mod byte_texts;
 #[cfg(test)]
-mod byte_types;
-#[cfg(test)]
 mod calls;
 #[cfg(test)]
 mod change_allocations;
@@ -29,8 +27,6 @@ mod displayed;
 mod error_allocations;
 #[cfg(test)]
 mod error_samples;
-#[cfg(test)]
-mod escapes;
 #[cfg(test)]
 mod events;
 #[cfg(test)]

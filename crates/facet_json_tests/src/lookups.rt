@@ -8,8 +8,15 @@ const TWICE: &str = r#"{"a":1,"b":[true,null,[]],"a":3}"#;
 /// A list of a value of each of three kinds.
 const ITEMS: &str = "[true,null,[]]";
 
-/// Parts that are looked for, and what is found. The last member with a name counts.
-pub static FOUND: [Row; 15] = [
+/// An object with a name that comes twice, and with an object within it.
+const OBJECT: &str = r#"{"a":1,"b":[true,{"a":2}],"a":3,"":4}"#;
+
+/// A list of a number, a list and an object.
+const LIST: &str = r#"[1,[2,3],{"a":4}]"#;
+
+#[rattlefmt::skip]
+pub static LOOKUPS: [Row; 30] = [
+    // Parts that are looked for, and what is found. The last member with a name counts.
     (TWICE, Change::Get("a"), "3", ""),
     (TWICE, Change::Get("c"), "", ""),
     (TWICE, Change::Get(""), "", ""),
@@ -25,40 +32,11 @@ pub static FOUND: [Row; 15] = [
     ("[]", Change::Item(0), "", ""),
     ("{}", Change::Get("a"), "", ""),
     ("{}", Change::Item(0), "", ""),
-];
-
-/// An object with a name that comes twice, and with an object within it.
-const OBJECT: &str = r#"{"a":1,"b":[true,{"a":2}],"a":3,"":4}"#;
-
-/// A list of a number, a list and an object.
-const LIST: &str = r#"[1,[2,3],{"a":4}]"#;
-
-/// Documents, their parts that become `false`, and what they become; and parts that they have not.
-pub static CHANGED: [Row; 15] = [
-    (
-        OBJECT,
-        Change::GetMut("a"),
-        "false",
-        r#"{"a":1,"b":[true,{"a":2}],"a":false,"":4}"#,
-    ),
-    (
-        OBJECT,
-        Change::GetMut("b"),
-        "false",
-        r#"{"a":1,"b":false,"a":3,"":4}"#,
-    ),
-    (
-        OBJECT,
-        Change::GetMut(""),
-        "false",
-        r#"{"a":1,"b":[true,{"a":2}],"a":3,"":false}"#,
-    ),
-    (
-        LIST,
-        Change::ItemMut(0),
-        "false",
-        r#"[false,[2,3],{"a":4}]"#,
-    ),
+    // Documents, their parts that become `false`, and what they become; and parts that they have not.
+    (OBJECT, Change::GetMut("a"), "false", r#"{"a":1,"b":[true,{"a":2}],"a":false,"":4}"#),
+    (OBJECT, Change::GetMut("b"), "false", r#"{"a":1,"b":false,"a":3,"":4}"#),
+    (OBJECT, Change::GetMut(""), "false", r#"{"a":1,"b":[true,{"a":2}],"a":3,"":false}"#),
+    (LIST, Change::ItemMut(0), "false", r#"[false,[2,3],{"a":4}]"#),
     (LIST, Change::ItemMut(1), "false", r#"[1,false,{"a":4}]"#),
     (LIST, Change::ItemMut(2), "false", r#"[1,[2,3],false]"#),
     (OBJECT, Change::GetMut("c"), "", ""),

@@ -3,13 +3,6 @@
 use crate::values::shows;
 use facet_json_serializer::{BytesFormat, HexBytesOptions, SerializeOptions};
 use std::alloc::Global;
-use std::fmt::Debug;
-use std::process::Abort;
-
-/// Fails where the value isn't shown so.
-fn expect<T: Debug>(rt: &impl Abort, alloc: Global, value: &T, shown: &str) {
-    assert!(rt; shows(alloc, value, shown) == Some(true), "{shown}");
-}
 
 const COMPACT: &str = "SerializeOptions { pretty: false, indent: \"  \", bytes_format: Array }";
 
@@ -28,16 +21,19 @@ fn are_kept(hex: HexBytesOptions) -> bool {
         && options.bytes_as_hex().bytes_format == BytesFormat::Hex(HexBytesOptions::new())
 }
 
+/// Whether options and formats are shown as they are asked for.
+fn are_shown(alloc: Global, hex: &HexBytesOptions) -> bool {
+    shows(alloc, &SerializeOptions::default(), COMPACT) == Some(true)
+        && shows(alloc, &BytesFormat::default(), "Array") == Some(true)
+        && shows(alloc, &HexBytesOptions::default(), WHOLE_HEX) == Some(true)
+        && shows(alloc, &SerializeOptions::new().indent("\t"), TABS) == Some(true)
+        && shows(alloc, &SerializeOptions::new().pretty(), PRETTY) == Some(true)
+        && shows(alloc, hex, SHORT_HEX) == Some(true)
+}
+
 #[test]
 fn options_are_as_they_are_asked_for(rt: HostRuntime) {
-    let alloc = rt.alloc();
-    expect(&rt, alloc, &SerializeOptions::default(), COMPACT);
-    expect(&rt, alloc, &BytesFormat::default(), "Array");
-    expect(&rt, alloc, &HexBytesOptions::default(), WHOLE_HEX);
-    expect(&rt, alloc, &SerializeOptions::new().indent("\t"), TABS);
-    expect(&rt, alloc, &SerializeOptions::new().pretty(), PRETTY);
     let hex = HexBytesOptions::new().truncate(6).head_tail(2, 3);
-    expect(&rt, alloc, &hex, SHORT_HEX);
-    assert!(rt; HexBytesOptions::default() == HexBytesOptions::new());
-    assert!(rt; are_kept(hex));
+    assert!(rt; are_shown(rt.alloc(), &hex));
+    assert!(rt; HexBytesOptions::default() == HexBytesOptions::new() && are_kept(hex));
 }

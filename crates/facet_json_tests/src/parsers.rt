@@ -153,23 +153,32 @@ fn raw<'de, P: FormatParser<'de>>(parser: &mut P) -> Option<&'de str> {
 }
 
 /// Whether a peek shows what the next call gives.
-fn peek_shows_next<'de, P: FormatParser<'de>>(parser: &mut P) -> bool {
+fn peek_shows_next(parser: &mut Nulls) -> bool {
     match peek_and_next(parser) {
         Some((shown, event)) => shown == event,
         None => false,
     }
 }
 
+/// Whether events and values of a parser are counted and shown.
+fn goes_on() -> bool {
+    count(&mut Nulls { left: 3 }) == Ok(3)
+        && peek_shows_next(&mut Nulls { left: 3 })
+        && skipped(&mut Nulls { left: 3 }) == 3
+        && skipped(&mut Nulls { left: 0 }) == 0
+        && raw(&mut Nulls { left: 1 }) == Some("null")
+        && raw(&mut Nulls { left: 0 }) == None
+}
+
+/// Whether a parser's place and refusals are told.
+fn is_told() -> bool {
+    position(&Nulls { left: 4 }) == 7
+        && position(&Nulls { left: usize::MAX }) == usize::MAX
+        && code_of_growth(&Nulls { left: 4 }) == 9
+        && DeserializeError::out_of_memory().kind.code() == 9
+}
+
 #[test]
 fn generic_code_runs_over_a_parser(rt: HostRuntime) {
-    assert!(rt; count(&mut Nulls { left: 3 }) == Ok(3));
-    assert!(rt; peek_shows_next(&mut Nulls { left: 3 }));
-    assert!(rt; skipped(&mut Nulls { left: 3 }) == 3);
-    assert!(rt; skipped(&mut Nulls { left: 0 }) == 0);
-    assert!(rt; raw(&mut Nulls { left: 1 }) == Some("null"));
-    assert!(rt; raw(&mut Nulls { left: 0 }) == None);
-    assert!(rt; position(&Nulls { left: 4 }) == 7);
-    assert!(rt; position(&Nulls { left: usize::MAX }) == usize::MAX);
-    assert!(rt; code_of_growth(&Nulls { left: 4 }) == 9);
-    assert!(rt; DeserializeError::out_of_memory().kind.code() == 9);
+    assert!(rt; goes_on() && is_told());
 }

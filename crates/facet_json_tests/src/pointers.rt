@@ -109,8 +109,8 @@ fn a_pointer_names_its_value_or_nothing_or_is_none(rt: HostRuntime) {
     }
     let members = Tree::Pairs(Vec::new(alloc));
     for &(text, wanted) in &REFUSED {
-        assert!(rt; refuses(&Tree::Null, text, wanted), "{text}");
-        assert!(rt; refuses(&members, text, wanted), "{text}");
+        let is_refused = refuses(&Tree::Null, text, wanted);
+        assert!(rt; is_refused && refuses(&members, text, wanted), "{text}");
     }
     assert!(rt; PointerError::NoSlash.offset() == 0 && PointerError::LoneTilde(3).offset() == 3);
 }

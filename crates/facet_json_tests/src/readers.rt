@@ -2,7 +2,7 @@
 //! is refused where its first fault stands; and within a depth, how they are refused below the least one that takes them.
 
 use crate::changes::is_document;
-use facet_format::{DeserializeError, DeserializeErrorKind, Span};
+use facet_format::{DeserializeError, DeserializeErrorKind as Kind, Span};
 use facet_json_parser::JsonParser;
 use facet_json_tree::{
     Tree, read_tree, tree_from_slice, tree_from_slice_jsonc, tree_from_slice_strict,
@@ -60,17 +60,14 @@ const SPACED: &str = " \t\n\r[ ] \t\n\r";
 /// A text of the standard with an escape.
 const ESCAPED: &str = r#"{"a":[-0.5e-3,"\u00e9",null]}"#;
 
+#[rattlefmt::skip]
 static READ: [Read; 13] = [
     ("1", Entry::Within(0), "1"),
     (" \"a\" ", Entry::Within(0), " \"a\" "),
     ("[[1]]", Entry::Within(2), "[[1]]"),
     ("[[1],[2],[]]", Entry::Within(2), "[[1],[2],[]]"),
     (r#"[1,{"a":[]}]"#, Entry::Within(3), r#"[1,{"a":[]}]"#),
-    (
-        r#"{"a":{},"b":{"c":{}}}"#,
-        Entry::Within(usize::MAX),
-        r#"{"a":{},"b":{"c":{}}}"#,
-    ),
+    (r#"{"a":{},"b":{"c":{}}}"#, Entry::Within(usize::MAX), r#"{"a":{},"b":{"c":{}}}"#),
     // Brackets in comments count nothing.
     ("[/* [[ */ 1]", Entry::WithinJsonc(1), "[1]"),
     // Texts of the standard, and how deeply they nest.
@@ -91,59 +88,17 @@ fn is_read(alloc: Global, row: &Read) -> bool {
 }
 
 /// A bracket beyond the depth.
-const TOO_DEEP: DeserializeErrorKind<'static> = DeserializeErrorKind::InvalidValue {
+const TOO_DEEP: Kind<'static> = Kind::InvalidValue {
     message: "nested too deeply",
 };
 
-/// A bracket that closes a list where a value was to begin.
-const LIST_END: DeserializeErrorKind<'static> = DeserializeErrorKind::UnexpectedToken {
-    got: "ArrayEnd",
-    expected: "value",
-};
-
-/// A bracket that closes an object where a value was to begin.
-const OBJECT_END: DeserializeErrorKind<'static> = DeserializeErrorKind::UnexpectedToken {
-    got: "ObjectEnd",
-    expected: "value",
-};
-
-/// A number after the document.
-const SECOND: DeserializeErrorKind<'static> = DeserializeErrorKind::UnexpectedToken {
-    got: "U64",
-    expected: "end of input",
-};
-
-/// Digits that are no number.
-const DIGITS: DeserializeErrorKind<'static> = DeserializeErrorKind::UnexpectedChar {
-    ch: '?',
-    expected: "valid JSON token",
-};
-
-/// A tab within a text.
-const TAB: DeserializeErrorKind<'static> = DeserializeErrorKind::UnexpectedChar {
-    ch: '\t',
-    expected: "valid JSON token",
-};
-
-/// A letter after the document.
-const LETTER: DeserializeErrorKind<'static> = DeserializeErrorKind::UnexpectedChar {
-    ch: 'x',
-    expected: "valid JSON token",
-};
-
 /// An input, a way to read it, and how it is refused: the kind, its number, and the span's offset and length.
-type Refused = (
-    &'static str,
-    Entry,
-    DeserializeErrorKind<'static>,
-    u8,
-    usize,
-    usize,
-);
+type Refused = (&'static str, Entry, Kind<'static>, u8, usize, usize);
 
 /// The greatest depth in strict mode.
 const GREATEST: Entry = Entry::WithinStrict(usize::MAX);
 
+#[rattlefmt::skip]
 static REFUSED: [Refused; 21] = [
     // Depths that are too small, and where the first bracket beyond stands.
     (" []", Entry::Within(0), TOO_DEEP, 5, 1, 1),
@@ -152,23 +107,23 @@ static REFUSED: [Refused; 21] = [
     ("[[1],[[],[]],[[]]]", Entry::Within(2), TOO_DEEP, 5, 6, 1),
     (r#"{"a":1,"b":{}}"#, Entry::Within(1), TOO_DEEP, 5, 11, 1),
     ("[[}", Entry::Within(1), TOO_DEEP, 5, 1, 1),
-    ("[}[[", Entry::Within(1), OBJECT_END, 3, 1, 1),
+    ("[}[[", Entry::Within(1), Kind::UnexpectedToken { got: "ObjectEnd", expected: "value" }, 3, 1, 1),
     ("// [\n[[", Entry::WithinJsonc(1), TOO_DEEP, 5, 6, 1),
     // What only lenient mode takes.
-    ("[1,]", Entry::Strict, LIST_END, 3, 3, 1),
-    ("[1,]", GREATEST, LIST_END, 3, 3, 1),
-    ("007", Entry::Strict, DIGITS, 1, 0, 3),
-    ("007", GREATEST, DIGITS, 1, 0, 3),
-    ("[\"\t\"]", Entry::Strict, TAB, 1, 2, 1),
-    ("[\"\t\"]", GREATEST, TAB, 1, 2, 1),
-    ("1 2", Entry::Strict, SECOND, 3, 2, 1),
-    ("1 2", GREATEST, SECOND, 3, 2, 1),
-    ("1 x", Entry::Strict, LETTER, 1, 2, 1),
-    ("1 x", GREATEST, LETTER, 1, 2, 1),
+    ("[1,]", Entry::Strict, Kind::UnexpectedToken { got: "ArrayEnd", expected: "value" }, 3, 3, 1),
+    ("[1,]", GREATEST, Kind::UnexpectedToken { got: "ArrayEnd", expected: "value" }, 3, 3, 1),
+    ("007", Entry::Strict, Kind::UnexpectedChar { ch: '?', expected: "valid JSON token" }, 1, 0, 3),
+    ("007", GREATEST, Kind::UnexpectedChar { ch: '?', expected: "valid JSON token" }, 1, 0, 3),
+    ("[\"\t\"]", Entry::Strict, Kind::UnexpectedChar { ch: '\t', expected: "valid JSON token" }, 1, 2, 1),
+    ("[\"\t\"]", GREATEST, Kind::UnexpectedChar { ch: '\t', expected: "valid JSON token" }, 1, 2, 1),
+    ("1 2", Entry::Strict, Kind::UnexpectedToken { got: "U64", expected: "end of input" }, 3, 2, 1),
+    ("1 2", GREATEST, Kind::UnexpectedToken { got: "U64", expected: "end of input" }, 3, 2, 1),
+    ("1 x", Entry::Strict, Kind::UnexpectedChar { ch: 'x', expected: "valid JSON token" }, 1, 2, 1),
+    ("1 x", GREATEST, Kind::UnexpectedChar { ch: 'x', expected: "valid JSON token" }, 1, 2, 1),
     // What nests too deeply in strict mode.
     (" []", Entry::WithinStrict(0), TOO_DEEP, 5, 1, 1),
     ("[[1],[[2]]] x", Entry::WithinStrict(2), TOO_DEEP, 5, 6, 1),
-    ("[1] x", Entry::WithinStrict(1), LETTER, 1, 4, 1),
+    ("[1] x", Entry::WithinStrict(1), Kind::UnexpectedChar { ch: 'x', expected: "valid JSON token" }, 1, 4, 1),
 ];
 
 /// Whether the entry of the row refuses this input as the row says.

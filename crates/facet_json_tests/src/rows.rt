@@ -26,231 +26,65 @@ impl Row {
     }
 }
 
-/// What is refused.
+/// What is refused: a character, the end, or a text.
 fn part_of(refusal: &Option<ScanError>) -> Option<Part> {
-    match refusal {
-        Some(error) => Some((place_of(&error.kind), error.span.offset, error.span.len)),
-        None => None,
-    }
-}
-
-/// What is refused: a character, or the end.
-fn place_of(kind: &ScanErrorKind) -> &'static str {
-    match kind {
+    let Some(ScanError { kind, span }) = refusal else {
+        return None;
+    };
+    let part = match kind {
         ScanErrorKind::UnexpectedChar(_) => "char",
         ScanErrorKind::UnexpectedEof(_) => "end",
         ScanErrorKind::InvalidUtf8 => "text",
-    }
+    };
+    Some((part, span.offset, span.len))
 }
 
+#[rattlefmt::skip]
 pub static ROWS: [Row; 14] = [
-    Row {
-        input: b"42",
-        comments: false,
-        tokens: &[SpannedToken {
-            token: Token::Number {
-                start: 0,
-                end: 2,
-                hint: NumberHint::Unsigned,
-            },
-            span: Span { offset: 0, len: 2 },
-        }],
-        refusal: None,
-    },
-    Row {
-        input: b"[-1.5e+2,\"\\ud83d\\ude00\"]",
-        comments: false,
-        tokens: &[
-            SpannedToken {
-                token: Token::ArrayStart,
-                span: Span { offset: 0, len: 1 },
-            },
-            SpannedToken {
-                token: Token::Number {
-                    start: 1,
-                    end: 8,
-                    hint: NumberHint::Float,
-                },
-                span: Span { offset: 1, len: 7 },
-            },
-            SpannedToken {
-                token: Token::Comma,
-                span: Span { offset: 8, len: 1 },
-            },
-            SpannedToken {
-                token: Token::String {
-                    start: 10,
-                    end: 22,
-                    has_escapes: true,
-                },
-                span: Span { offset: 9, len: 14 },
-            },
-            SpannedToken {
-                token: Token::ArrayEnd,
-                span: Span { offset: 23, len: 1 },
-            },
-        ],
-        refusal: None,
-    },
-    Row {
-        input: b"1 //a\n/*b*/ /",
-        comments: true,
-        tokens: &[SpannedToken {
-            token: Token::Number {
-                start: 0,
-                end: 1,
-                hint: NumberHint::Unsigned,
-            },
-            span: Span { offset: 0, len: 1 },
-        }],
-        refusal: Some(("char", 12, 1)),
-    },
-    Row {
-        input: b"/*/",
-        comments: true,
-        tokens: &[],
-        refusal: Some(("end", 0, 3)),
-    },
-    Row {
-        input: b"",
-        comments: false,
-        tokens: &[],
-        refusal: None,
-    },
-    Row {
-        input: b"   1",
-        comments: false,
-        tokens: &[SpannedToken {
-            token: Token::Number {
-                start: 3,
-                end: 4,
-                hint: NumberHint::Unsigned,
-            },
-            span: Span { offset: 3, len: 1 },
-        }],
-        refusal: None,
-    },
-    Row {
-        input: b"{\"key\" : null}",
-        comments: false,
-        tokens: &[
-            SpannedToken {
-                token: Token::ObjectStart,
-                span: Span { offset: 0, len: 1 },
-            },
-            SpannedToken {
-                token: Token::String {
-                    start: 2,
-                    end: 5,
-                    has_escapes: false,
-                },
-                span: Span { offset: 1, len: 5 },
-            },
-            SpannedToken {
-                token: Token::Colon,
-                span: Span { offset: 7, len: 1 },
-            },
-            SpannedToken {
-                token: Token::Null,
-                span: Span { offset: 9, len: 4 },
-            },
-            SpannedToken {
-                token: Token::ObjectEnd,
-                span: Span { offset: 13, len: 1 },
-            },
-        ],
-        refusal: None,
-    },
-    Row {
-        input: b"[true,false,-7] \n ",
-        comments: false,
-        tokens: &[
-            SpannedToken {
-                token: Token::ArrayStart,
-                span: Span { offset: 0, len: 1 },
-            },
-            SpannedToken {
-                token: Token::True,
-                span: Span { offset: 1, len: 4 },
-            },
-            SpannedToken {
-                token: Token::Comma,
-                span: Span { offset: 5, len: 1 },
-            },
-            SpannedToken {
-                token: Token::False,
-                span: Span { offset: 6, len: 5 },
-            },
-            SpannedToken {
-                token: Token::Comma,
-                span: Span { offset: 11, len: 1 },
-            },
-            SpannedToken {
-                token: Token::Number {
-                    start: 12,
-                    end: 14,
-                    hint: NumberHint::Signed,
-                },
-                span: Span { offset: 12, len: 2 },
-            },
-            SpannedToken {
-                token: Token::ArrayEnd,
-                span: Span { offset: 14, len: 1 },
-            },
-        ],
-        refusal: None,
-    },
-    Row {
-        input: b"1 x2",
-        comments: false,
-        tokens: &[SpannedToken {
-            token: Token::Number {
-                start: 0,
-                end: 1,
-                hint: NumberHint::Unsigned,
-            },
-            span: Span { offset: 0, len: 1 },
-        }],
-        refusal: Some(("char", 2, 1)),
-    },
-    Row {
-        input: b"\"a\\\"b",
-        comments: false,
-        tokens: &[],
-        refusal: Some(("end", 0, 5)),
-    },
-    Row {
-        input: b"tru",
-        comments: false,
-        tokens: &[],
-        refusal: Some(("end", 0, 3)),
-    },
-    Row {
-        input: b"[-",
-        comments: false,
-        tokens: &[SpannedToken {
-            token: Token::ArrayStart,
-            span: Span { offset: 0, len: 1 },
-        }],
-        refusal: Some(("end", 1, 1)),
-    },
-    Row {
-        input: b"//a [1]",
-        comments: true,
-        tokens: &[],
-        refusal: None,
-    },
-    Row {
-        input: b"//a\n/**/7//b",
-        comments: true,
-        tokens: &[SpannedToken {
-            token: Token::Number {
-                start: 8,
-                end: 9,
-                hint: NumberHint::Unsigned,
-            },
-            span: Span { offset: 8, len: 1 },
-        }],
-        refusal: None,
-    },
+    Row { input: b"42", comments: false, refusal: None, tokens: &[
+        SpannedToken { token: Token::Number { start: 0, end: 2, hint: NumberHint::Unsigned }, span: Span { offset: 0, len: 2 } },
+    ] },
+    Row { input: b"[-1.5e+2,\"\\ud83d\\ude00\"]", comments: false, refusal: None, tokens: &[
+        SpannedToken { token: Token::ArrayStart, span: Span { offset: 0, len: 1 } },
+        SpannedToken { token: Token::Number { start: 1, end: 8, hint: NumberHint::Float }, span: Span { offset: 1, len: 7 } },
+        SpannedToken { token: Token::Comma, span: Span { offset: 8, len: 1 } },
+        SpannedToken { token: Token::String { start: 10, end: 22, has_escapes: true }, span: Span { offset: 9, len: 14 } },
+        SpannedToken { token: Token::ArrayEnd, span: Span { offset: 23, len: 1 } },
+    ] },
+    Row { input: b"1 //a\n/*b*/ /", comments: true, refusal: Some(("char", 12, 1)), tokens: &[
+        SpannedToken { token: Token::Number { start: 0, end: 1, hint: NumberHint::Unsigned }, span: Span { offset: 0, len: 1 } },
+    ] },
+    Row { input: b"/*/", comments: true, refusal: Some(("end", 0, 3)), tokens: &[] },
+    Row { input: b"", comments: false, refusal: None, tokens: &[] },
+    Row { input: b"   1", comments: false, refusal: None, tokens: &[
+        SpannedToken { token: Token::Number { start: 3, end: 4, hint: NumberHint::Unsigned }, span: Span { offset: 3, len: 1 } },
+    ] },
+    Row { input: b"{\"key\" : null}", comments: false, refusal: None, tokens: &[
+        SpannedToken { token: Token::ObjectStart, span: Span { offset: 0, len: 1 } },
+        SpannedToken { token: Token::String { start: 2, end: 5, has_escapes: false }, span: Span { offset: 1, len: 5 } },
+        SpannedToken { token: Token::Colon, span: Span { offset: 7, len: 1 } },
+        SpannedToken { token: Token::Null, span: Span { offset: 9, len: 4 } },
+        SpannedToken { token: Token::ObjectEnd, span: Span { offset: 13, len: 1 } },
+    ] },
+    Row { input: b"[true,false,-7] \n ", comments: false, refusal: None, tokens: &[
+        SpannedToken { token: Token::ArrayStart, span: Span { offset: 0, len: 1 } },
+        SpannedToken { token: Token::True, span: Span { offset: 1, len: 4 } },
+        SpannedToken { token: Token::Comma, span: Span { offset: 5, len: 1 } },
+        SpannedToken { token: Token::False, span: Span { offset: 6, len: 5 } },
+        SpannedToken { token: Token::Comma, span: Span { offset: 11, len: 1 } },
+        SpannedToken { token: Token::Number { start: 12, end: 14, hint: NumberHint::Signed }, span: Span { offset: 12, len: 2 } },
+        SpannedToken { token: Token::ArrayEnd, span: Span { offset: 14, len: 1 } },
+    ] },
+    Row { input: b"1 x2", comments: false, refusal: Some(("char", 2, 1)), tokens: &[
+        SpannedToken { token: Token::Number { start: 0, end: 1, hint: NumberHint::Unsigned }, span: Span { offset: 0, len: 1 } },
+    ] },
+    Row { input: b"\"a\\\"b", comments: false, refusal: Some(("end", 0, 5)), tokens: &[] },
+    Row { input: b"tru", comments: false, refusal: Some(("end", 0, 3)), tokens: &[] },
+    Row { input: b"[-", comments: false, refusal: Some(("end", 1, 1)), tokens: &[
+        SpannedToken { token: Token::ArrayStart, span: Span { offset: 0, len: 1 } },
+    ] },
+    Row { input: b"//a [1]", comments: true, refusal: None, tokens: &[] },
+    Row { input: b"//a\n/**/7//b", comments: true, refusal: None, tokens: &[
+        SpannedToken { token: Token::Number { start: 8, end: 9, hint: NumberHint::Unsigned }, span: Span { offset: 8, len: 1 } },
+    ] },
 ];

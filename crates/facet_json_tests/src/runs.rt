@@ -6,22 +6,12 @@ use facet_json_token::Mode;
 use std::alloc::Global;
 
 /// Inputs that begin with a container of this kind, and the last token of its run.
+#[rattlefmt::skip]
+#[rattlefmt::skip]
 static RUNS: [(&[u8], ContainerKind, Span); 3] = [
-    (
-        b"[1,,:] 2",
-        ContainerKind::Array,
-        Span { offset: 5, len: 1 },
-    ),
-    (
-        b"{\"a\":[1 2]}}",
-        ContainerKind::Object,
-        Span { offset: 10, len: 1 },
-    ),
-    (
-        b"[[\"\\ud800\"]]",
-        ContainerKind::Array,
-        Span { offset: 11, len: 1 },
-    ),
+    (b"[1,,:] 2", ContainerKind::Array, Span { offset: 5, len: 1 }),
+    (b"{\"a\":[1 2]}}", ContainerKind::Object, Span { offset: 10, len: 1 }),
+    (b"[[\"\\ud800\"]]", ContainerKind::Array, Span { offset: 11, len: 1 }),
 ];
 
 /// Whether the run of the container at the start of the input ends with this token.

@@ -13,8 +13,10 @@ pub struct Halves<'a> {
     most: usize,
     reads: usize,
     fails_at: usize,
-    asked_for_more: bool,
-    failed: bool,
+    /// Whether it was asked for more bytes than it may be.
+    pub asked_for_more: bool,
+    /// Whether its read failed.
+    pub failed: bool,
     ended: bool,
 }
 
@@ -30,16 +32,6 @@ impl<'a> Halves<'a> {
             failed: false,
             ended: false,
         }
-    }
-
-    /// Whether it was asked for as many bytes as it may be, or fewer, each time.
-    pub fn was_asked_well(&self) -> bool {
-        !self.asked_for_more
-    }
-
-    /// Whether its read failed.
-    pub fn has_failed(&self) -> bool {
-        self.failed
     }
 }
 

@@ -1,53 +1,26 @@
 //! How `transcode` refuses where a parser has read some events before.
 
 use crate::written::is_text;
-use facet_format::{DeserializeErrorKind, FormatParser, Span};
+use facet_format::{DeserializeErrorKind as Kind, FormatParser, Span};
 use facet_json_core::{TranscodeError, transcode};
 use facet_json_parser::JsonParser;
 use facet_json_serializer::JsonSerializer;
 use std::alloc::Global;
 
-/// A key where a value is to begin.
-const KEY: DeserializeErrorKind<'static> = DeserializeErrorKind::TypeMismatch {
-    expected: "value",
-    got: "key",
-};
-
-/// A container's end, likewise.
-const END: DeserializeErrorKind<'static> = DeserializeErrorKind::TypeMismatch {
-    expected: "value",
-    got: "end",
-};
-
-/// No event comes.
-const NO_VALUE: DeserializeErrorKind<'static> = DeserializeErrorKind::UnexpectedEof {
-    expected: "value",
-};
-
-/// No event comes within a list.
-const NO_ITEM: DeserializeErrorKind<'static> = DeserializeErrorKind::UnexpectedEof {
-    expected: "value or ']'",
-};
-
 /// An input, how many of its events are read before, and how what comes is refused: the kind, and the span's offset and length.
-type Row = (
-    &'static [u8],
-    usize,
-    DeserializeErrorKind<'static>,
-    usize,
-    usize,
-);
+type Row = (&'static [u8], usize, Kind<'static>, usize, usize);
 
 /// Where no value begins, and where no event comes.
+#[rattlefmt::skip]
 static ROWS: [Row; 8] = [
-    (b"{\"a\":1}", 1, KEY, 1, 3),
-    (b"{\"a\":1,\"b\":2}", 3, KEY, 7, 3),
-    (b"{}", 1, END, 1, 1),
-    (b"[]", 1, END, 1, 1),
-    (b"[1]", 2, END, 2, 1),
-    (b"{\"a\":1}", 3, END, 6, 1),
-    (b"1", 1, NO_VALUE, 1, 0),
-    (b"[1,", 2, NO_ITEM, 3, 0),
+    (b"{\"a\":1}", 1, Kind::TypeMismatch { expected: "value", got: "key" }, 1, 3),
+    (b"{\"a\":1,\"b\":2}", 3, Kind::TypeMismatch { expected: "value", got: "key" }, 7, 3),
+    (b"{}", 1, Kind::TypeMismatch { expected: "value", got: "end" }, 1, 1),
+    (b"[]", 1, Kind::TypeMismatch { expected: "value", got: "end" }, 1, 1),
+    (b"[1]", 2, Kind::TypeMismatch { expected: "value", got: "end" }, 2, 1),
+    (b"{\"a\":1}", 3, Kind::TypeMismatch { expected: "value", got: "end" }, 6, 1),
+    (b"1", 1, Kind::UnexpectedEof { expected: "value" }, 1, 0),
+    (b"[1,", 2, Kind::UnexpectedEof { expected: "value or ']'" }, 3, 0),
 ];
 
 /// Whether so many events come.

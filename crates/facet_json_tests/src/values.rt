@@ -4,7 +4,6 @@ use facet_format::numeral::NumberHint;
 use facet_format::{DeserializeError, DeserializeErrorKind, ParseError, SavePoint, Span};
 use std::alloc::Global;
 use std::fmt::Debug;
-use std::process::Abort;
 
 /// A value, another one, and how the first is shown.
 type Row<T> = (T, T, &'static str);
@@ -51,67 +50,25 @@ static HINTS: [Row<NumberHint>; 3] = [
     (NumberHint::Float, NumberHint::Unsigned, "Float"),
 ];
 
+#[rattlefmt::skip]
 static KINDS: [Row<DeserializeErrorKind<'static>>; 10] = [
-    (
-        DeserializeErrorKind::UnexpectedChar {
-            ch: 'x',
-            expected: "a",
-        },
-        OTHER,
-        "UnexpectedChar { ch: 'x', expected: \"a\" }",
-    ),
-    (
-        DeserializeErrorKind::UnexpectedEof { expected: "a" },
-        OTHER,
-        "UnexpectedEof { expected: \"a\" }",
-    ),
-    (
-        DeserializeErrorKind::UnexpectedToken {
-            got: "a",
-            expected: "b",
-        },
-        OTHER,
-        "UnexpectedToken { got: \"a\", expected: \"b\" }",
-    ),
+    (DeserializeErrorKind::UnexpectedChar { ch: 'x', expected: "a" }, OTHER, "UnexpectedChar { ch: 'x', expected: \"a\" }"),
+    (DeserializeErrorKind::UnexpectedEof { expected: "a" }, OTHER, "UnexpectedEof { expected: \"a\" }"),
+    (DeserializeErrorKind::UnexpectedToken { got: "a", expected: "b" }, OTHER, "UnexpectedToken { got: \"a\", expected: \"b\" }"),
     (DeserializeErrorKind::InvalidUtf8, OTHER, "InvalidUtf8"),
-    (
-        DeserializeErrorKind::InvalidValue { message: "a" },
-        OTHER,
-        "InvalidValue { message: \"a\" }",
-    ),
+    (DeserializeErrorKind::InvalidValue { message: "a" }, OTHER, "InvalidValue { message: \"a\" }"),
     (DeserializeErrorKind::OutOfMemory, OTHER, "OutOfMemory"),
     (DeserializeErrorKind::SaveLimit, OTHER, "SaveLimit"),
-    (
-        DeserializeErrorKind::TypeMismatch {
-            expected: "a",
-            got: "b",
-        },
-        DeserializeErrorKind::InvalidUtf8,
-        "TypeMismatch { expected: \"a\", got: \"b\" }",
-    ),
-    (
-        DeserializeErrorKind::NumberOutOfRange { target_type: "u8" },
-        DeserializeErrorKind::InvalidUtf8,
-        "NumberOutOfRange { target_type: \"u8\" }",
-    ),
-    (
-        DeserializeErrorKind::MissingField { field: "a" },
-        DeserializeErrorKind::InvalidUtf8,
-        "MissingField { field: \"a\" }",
-    ),
+    (DeserializeErrorKind::TypeMismatch { expected: "a", got: "b" }, DeserializeErrorKind::InvalidUtf8,
+        "TypeMismatch { expected: \"a\", got: \"b\" }"),
+    (DeserializeErrorKind::NumberOutOfRange { target_type: "u8" }, DeserializeErrorKind::InvalidUtf8, "NumberOutOfRange { target_type: \"u8\" }"),
+    (DeserializeErrorKind::MissingField { field: "a" }, DeserializeErrorKind::InvalidUtf8, "MissingField { field: \"a\" }"),
 ];
 
+#[rattlefmt::skip]
 static REFUSALS: [Row<DeserializeError<'static>>; 2] = [
-    (
-        HERE,
-        NOWHERE,
-        "DeserializeError { kind: InvalidUtf8, span: Some(Span { offset: 0, len: 3 }) }",
-    ),
-    (
-        NOWHERE,
-        HERE,
-        "DeserializeError { kind: OutOfMemory, span: None }",
-    ),
+    (HERE, NOWHERE, "DeserializeError { kind: InvalidUtf8, span: Some(Span { offset: 0, len: 3 }) }"),
+    (NOWHERE, HERE, "DeserializeError { kind: OutOfMemory, span: None }"),
 ];
 
 static PARSER_REFUSALS: [Row<ParseError<'static>>; 1] = [(
@@ -136,25 +93,23 @@ fn is_copied<T: Clone + PartialEq + Drop>(value: &T, other: &T) -> bool {
     }
 }
 
-/// Fails where a value isn't copied, compared or shown as its row says.
-fn expect<T: Clone + PartialEq + Debug + Drop>(rt: &impl Abort, alloc: Global, rows: &[Row<T>]) {
+/// Whether each value is copied, compared and shown as its row says.
+fn hold<T: Clone + PartialEq + Debug + Drop>(alloc: Global, rows: &[Row<T>]) -> bool {
     for (value, other, shown) in rows {
-        assert!(rt; is_copied(value, other), "{shown}");
-        assert!(rt; shows(alloc, value, *shown) == Some(true), "{shown}");
+        if !is_copied(value, other) || shows(alloc, value, *shown) != Some(true) {
+            return false;
+        }
     }
+    true
 }
 
 #[test]
 fn values_are_copied_compared_shown_and_converted(rt: HostRuntime) {
     let alloc = rt.alloc();
-    expect(&rt, alloc, &SPANS);
-    expect(&rt, alloc, &SAVE_POINTS);
-    expect(&rt, alloc, &HINTS);
-    expect(&rt, alloc, &KINDS);
-    expect(&rt, alloc, &REFUSALS);
-    expect(&rt, alloc, &PARSER_REFUSALS);
+    assert!(rt; hold(alloc, &SPANS) && hold(alloc, &SAVE_POINTS) && hold(alloc, &HINTS));
+    assert!(rt; hold(alloc, &KINDS), "kinds");
+    assert!(rt; hold(alloc, &REFUSALS) && hold(alloc, &PARSER_REFUSALS));
     let here = ParseError::new(Span::new(2, 1), DeserializeErrorKind::SaveLimit);
-    assert!(rt; here == PARSER_HERE);
-    assert!(rt; DeserializeError::from(here) == PASSED);
+    assert!(rt; here == PARSER_HERE && DeserializeError::from(here) == PASSED);
     assert!(rt; DeserializeError::out_of_memory() == NOWHERE);
 }

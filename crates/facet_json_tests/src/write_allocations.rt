@@ -16,76 +16,19 @@ use facet_json_tree::{Tree, WriteError};
 use std::alloc::{AllocError, Global};
 use std::io::ErrorKind;
 
+#[rattlefmt::skip]
 static ROWS: [Row; 6] = [
-    (
-        Layout::Compact,
-        &[
-            Call::BeginStruct,
-            Call::Key("a"),
-            Call::BeginSeq,
-            Call::BeginSeq,
-            Call::Number(18446744073709551615),
-            Call::Text("a text that is longer\nthan the first growth"),
-            Call::EndSeq,
-            Call::Raw("[true, false, null]"),
-            Call::Bytes(&[1, 2, 3]),
-            Call::EndSeq,
-            Call::EndStruct,
-        ],
-        &[],
-        "{\"a\":[[18446744073709551615,\"a text that is longer\\nthan the first growth\"],[true, false, null],[1,2,3]]}",
-    ),
-    (
-        Layout::Compact,
-        &[
-            Call::BeginStruct,
-            Call::EndSeq,
-            Call::Key("a\n"),
-            Call::BeginStruct,
-            Call::EndStruct,
-            Call::Key("b"),
-            Call::Number(1234567890),
-            Call::EndStruct,
-            Call::EndStruct,
-        ],
-        &[0, 3, 0, 0, 0, 0, 0, 0, 2],
-        "{\"a\\n\":{},\"b\":1234567890}",
-    ),
-    (
-        Layout::Compact,
-        &[
-            Call::BeginSeq,
-            Call::Text("a\"\u{1}"),
-            Call::BeginSeq,
-            Call::Key("a"),
-            Call::EndSeq,
-            Call::Bytes(&[1, 22]),
-            Call::Array(&[255]),
-            Call::Raw("[2]"),
-            Call::EndSeq,
-        ],
-        &[0, 0, 0, 1],
-        "[\"a\\\"\\u0001\",[],[1,22],[255],[2]]",
-    ),
-    (
-        Layout::Pretty,
-        &[
-            Call::BeginSeq,
-            Call::BeginStruct,
-            Call::Key("a"),
-            Call::Number(1),
-            Call::EndStruct,
-            Call::EndSeq,
-        ],
-        &[],
-        "[\n  {\n    \"a\": 1\n  }\n]",
-    ),
-    (
-        Layout::ShortHex(3, 2, 1),
-        &[Call::Bytes(&[0, 1, 2, 255])],
-        &[],
-        "\"0x0001..<1 bytes>..ff\"",
-    ),
+    (Layout::Compact, &[Call::BeginStruct, Call::Key("a"), Call::BeginSeq, Call::BeginSeq, Call::Number(18446744073709551615),
+        Call::Text("a text that is longer\nthan the first growth"), Call::EndSeq, Call::Raw("[true, false, null]"), Call::Bytes(&[1, 2, 3]),
+        Call::EndSeq, Call::EndStruct], &[],
+        "{\"a\":[[18446744073709551615,\"a text that is longer\\nthan the first growth\"],[true, false, null],[1,2,3]]}"),
+    (Layout::Compact, &[Call::BeginStruct, Call::EndSeq, Call::Key("a\n"), Call::BeginStruct, Call::EndStruct, Call::Key("b"),
+        Call::Number(1234567890), Call::EndStruct, Call::EndStruct], &[0, 3, 0, 0, 0, 0, 0, 0, 2], "{\"a\\n\":{},\"b\":1234567890}"),
+    (Layout::Compact, &[Call::BeginSeq, Call::Text("a\"\u{1}"), Call::BeginSeq, Call::Key("a"), Call::EndSeq, Call::Bytes(&[1, 22]),
+        Call::Array(&[255]), Call::Raw("[2]"), Call::EndSeq], &[0, 0, 0, 1], "[\"a\\\"\\u0001\",[],[1,22],[255],[2]]"),
+    (Layout::Pretty, &[Call::BeginSeq, Call::BeginStruct, Call::Key("a"), Call::Number(1), Call::EndStruct, Call::EndSeq], &[],
+        "[\n  {\n    \"a\": 1\n  }\n]"),
+    (Layout::ShortHex(3, 2, 1), &[Call::Bytes(&[0, 1, 2, 255])], &[], "\"0x0001..<1 bytes>..ff\""),
     (Layout::ShortHex(3, 2, 1), &[], &[], ""),
 ];
 

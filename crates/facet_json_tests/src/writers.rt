@@ -9,7 +9,6 @@ use facet_json_tree::{Tree, WriteError};
 use std::alloc::{AllocError, Global};
 use std::io;
 use std::io::{ErrorKind, Write};
-use std::process::Abort;
 
 /// A list that each layout writes in another way.
 pub static SAMPLE: [Sample; 2] = [Sample::Null, Sample::Bytes(&[1, 255])];
@@ -148,41 +147,47 @@ fn fails_where_room_ends(alloc: Global, form: Form, tree: &Tree) -> bool {
     has_failed(&answer, Some(ErrorKind::WriteZero)) && text_by(form).as_bytes().starts_with(&room)
 }
 
-/// Fails where the refusal has another number or is displayed otherwise.
-fn expect_told(rt: &impl Abort, alloc: Global, refusal: &WriteError, code: u8, message: &str) {
-    assert!(rt; refusal.code() == code, "{message}");
-    assert!(rt;
-        is_displayed(alloc, refusal, message) == Some(true),
-        "{message}"
-    );
+/// Whether the function writes so to a writer of each way, to one that fails at whichever write, and to one with too little room.
+fn ends_each_way(alloc: Global, form: Form, tree: &Tree) -> bool {
+    for way in &WAYS {
+        if !ends(alloc, form, tree, way) {
+            return false;
+        }
+    }
+    for at in 0..40 {
+        let way = (3, at, ErrorKind::BrokenPipe, Some(ErrorKind::BrokenPipe));
+        if !ends(alloc, form, tree, &way) {
+            return false;
+        }
+    }
+    fails_where_room_ends(alloc, form, tree)
+}
+
+/// The same of the sample.
+fn holds(alloc: Global, form: Form) -> bool {
+    match list_of(alloc, &SAMPLE) {
+        Some(tree) => ends_each_way(alloc, form, &tree),
+        None => false,
+    }
+}
+
+/// Whether the refusal has this number and is displayed so.
+fn is_told(alloc: Global, refusal: &WriteError, code: u8, message: &str) -> bool {
+    refusal.code() == code && is_displayed(alloc, refusal, message) == Some(true)
+}
+
+/// Whether each refusal is told.
+fn are_told(alloc: Global) -> bool {
+    let failed = WriteError::from(io::Error::from(ErrorKind::BrokenPipe));
+    is_told(alloc, &WriteError::Memory, 1, "out of memory")
+        && is_told(alloc, &WriteError::from(AllocError), 1, "out of memory")
+        && is_told(alloc, &failed, 2, "I/O error: broken pipe")
 }
 
 #[test]
 fn each_function_writes_to_each_writer(rt: HostRuntime) {
-    let alloc = rt.alloc();
-    let tree = list_of(alloc, &SAMPLE).expect(&rt, "memory");
     for form in FORMS {
-        for way in &WAYS {
-            assert!(rt; ends(alloc, form, &tree, way), "{}", text_by(form));
-        }
-        for at in 0..40 {
-            let way = (3, at, ErrorKind::BrokenPipe, Some(ErrorKind::BrokenPipe));
-            assert!(rt; ends(alloc, form, &tree, &way), "{at} {}", text_by(form));
-        }
-        assert!(rt;
-            fails_where_room_ends(alloc, form, &tree),
-            "{}",
-            text_by(form)
-        );
+        assert!(rt; holds(rt.alloc(), form), "{}", text_by(form));
     }
-    expect_told(&rt, alloc, &WriteError::Memory, 1, "out of memory");
-    expect_told(
-        &rt,
-        alloc,
-        &WriteError::from(AllocError),
-        1,
-        "out of memory",
-    );
-    let failed = WriteError::from(io::Error::from(ErrorKind::BrokenPipe));
-    expect_told(&rt, alloc, &failed, 2, "I/O error: broken pipe");
+    assert!(rt; are_told(rt.alloc()));
 }

@@ -6,7 +6,6 @@ use facet_json_serializer::{
 };
 use std::alloc::Global;
 use std::borrow::CowStr;
-use std::process::Abort;
 
 /// How the text is laid out.
 pub enum Layout {
@@ -45,20 +44,15 @@ pub fn options(layout: &Layout) -> SerializeOptions<'static> {
 }
 
 /// How calls are written, the calls, the number of each one's refusal or 0, with none for the last ones that are taken, and the text.
-pub type Row = (
-    Layout,
-    &'static [Call<'static>],
-    &'static [u8],
-    &'static str,
-);
+pub type Row = (Layout, &'static [Call], &'static [u8], &'static str);
 
 /// A call.
 #[derive(Drop)]
-pub enum Call<'a> {
+pub enum Call {
     /// `begin_struct`
     BeginStruct,
     /// `field_key`
-    Key(&'a str),
+    Key(&'static str),
     /// `end_struct`
     EndStruct,
     /// `begin_seq`
@@ -68,20 +62,20 @@ pub enum Call<'a> {
     /// `scalar` of a number
     Number(u64),
     /// `scalar` of a text
-    Text(&'a str),
+    Text(&'static str),
     /// `scalar` of another value
-    Scalar(Scalar<'a>),
+    Scalar(Scalar),
     /// `raw_scalar`
-    Raw(&'a str),
+    Raw(&'static str),
     /// `serialize_byte_sequence`
-    Bytes(&'a [u8]),
+    Bytes(&'static [u8]),
     /// `serialize_byte_array`
-    Array(&'a [u8]),
+    Array(&'static [u8]),
 }
 
 /// A value, by what it holds.
 #[derive(Clone, Copy)]
-pub enum Scalar<'a> {
+pub enum Scalar {
     Unit,
     Null,
     Char(char),
@@ -90,14 +84,14 @@ pub enum Scalar<'a> {
     I64(i64),
     U128(u128),
     I128(i128),
-    Text(&'a str),
-    Bytes(&'a [u8]),
+    Text(&'static str),
+    Bytes(&'static [u8]),
     /// A number with a fraction or an exponent, by its text
-    Decimal(&'a str),
+    Decimal(&'static str),
 }
 
 /// The value.
-pub fn value_of(scalar: Scalar<'_>) -> ScalarValue<'_> {
+pub fn value_of(scalar: Scalar) -> ScalarValue<'static> {
     match scalar {
         Scalar::Null => ScalarValue::Null,
         Scalar::Unit => ScalarValue::Unit,
@@ -125,7 +119,7 @@ fn number_of<T>(answer: &Result<T, JsonSerializeError>) -> u8 {
 }
 
 /// Makes a call. The number of its refusal, or 0.
-fn make(serializer: &mut JsonSerializer<'_>, call: &Call<'_>) -> u8 {
+fn make(serializer: &mut JsonSerializer<'_>, call: &Call) -> u8 {
     match call {
         Call::BeginStruct => number_of(&serializer.begin_struct()),
         Call::Key(key) => number_of(&serializer.field_key(*key)),
@@ -164,7 +158,7 @@ fn are_answered(
 }
 
 /// Writes the padding, where there is one, as it stands. Whether memory ran out.
-fn is_refused(serializer: &mut JsonSerializer<'_>, padding: Option<&str>) -> bool {
+fn is_refused(serializer: &mut JsonSerializer<'_>, padding: Option<&'static str>) -> bool {
     match padding {
         Some(json) => make(serializer, &Call::Raw(json)) == OUT_OF_MEMORY,
         None => false,
@@ -173,7 +167,7 @@ fn is_refused(serializer: &mut JsonSerializer<'_>, padding: Option<&str>) -> boo
 
 /// Whether the calls write the row's text after the padding, and those that are refused are refused as the row says. Or memory runs out,
 /// and then no text is given.
-pub fn writes(alloc: Global, padding: Option<&str>, row: &Row) -> Option<bool> {
+pub fn writes(alloc: Global, padding: Option<&'static str>, row: &Row) -> Option<bool> {
     let mut serializer = JsonSerializer::with_options(alloc, options(&row.0));
     let ran_out = is_refused(&mut serializer, padding);
     let answered = are_answered(&mut serializer, row, ran_out);
@@ -210,12 +204,5 @@ pub fn is_text(answer: &Result<Vec<u8>, JsonSerializeError>, text: &str) -> Opti
         Ok(written) => Some(written.as_slice() == text.as_bytes()),
         Err(JsonSerializeError::OutOfMemory) => None,
         Err(_) => Some(false),
-    }
-}
-
-/// Fails where calls aren't written and refused as their row says.
-pub fn expect_written(rt: &impl Abort, alloc: Global, rows: &[Row]) {
-    for row in rows {
-        assert!(rt; writes(alloc, None, row) == Some(true), "{}", row.3);
     }
 }
