@@ -1,10 +1,11 @@
 //! The skip of a value whose bytes stand at each place of the windows and blocks that it is passed by.
 
-use crate::compared::{Mode, parser_of};
+use crate::compared::{Mode, Reading};
 use crate::shown::write_error;
+use crate::told::Told;
 use crate::unread::{Passed, Unread, passed_by};
 use facet_format::{ParseError, Span};
-use std::alloc::{AllocError, Global};
+use std::alloc::Global;
 
 /// How often a part is repeated at most: over two blocks of sixty-four, and a little more.
 const MOST: usize = 130;
@@ -31,82 +32,67 @@ fn parts_of(text: &str) -> Parts<'_> {
     }
 }
 
-/// Writes for each mode where a skip of the root ends, where the second of three parts is repeated 0 to 130 times.
-pub fn answer_blocks(
-    alloc: Global,
-    modes: &[Mode],
-    text: &str,
-    told: &mut String,
-) -> Result<(), AllocError> {
+/// Tells for each mode where a skip of the root ends, where the second of three parts is repeated 0 to 130 times.
+pub fn answer_blocks(alloc: Global, modes: &[Mode], text: &str, told: &mut Told) {
     for mode in modes {
-        write_ends(alloc, *mode, parts_of(text), told)?;
+        write_ends(alloc, *mode, parts_of(text), told);
     }
-    Ok(())
 }
 
 /// Where a skip of the root ends, or its refusal, counted from the end of the repeated part; nothing where white space after it changes that.
 type Ending = Option<Result<usize, ParseError<'static>>>;
 
-/// Writes where the skip ends for each number of times from which on it ends elsewhere.
-fn write_ends(
-    alloc: Global,
-    mode: Mode,
-    parts: Parts<'_>,
-    told: &mut String,
-) -> Result<(), AllocError> {
+/// Tells where the skip ends for each number of times from which on it ends elsewhere.
+fn write_ends(alloc: Global, mode: Mode, parts: Parts<'_>, told: &mut Told) {
     let mut last = None;
     for count in 0..=MOST {
-        let end = end_of(alloc, mode, parts, count)?;
+        let end = end_of(alloc, mode, parts, count);
         if count == 0 || end != last {
-            write_end(count, &end, told)?;
+            write_end(count, &end, told);
         }
         last = end;
     }
-    Ok(())
 }
 
-/// Writes where the skip ends where the part is repeated so often.
-fn write_end(count: usize, end: &Ending, told: &mut String) -> Result<(), AllocError> {
-    write!(told, "{count}: ")?;
+/// Tells where the skip ends where the part is repeated so often.
+fn write_end(count: usize, end: &Ending, told: &mut Told) {
+    told.show(&count);
+    told.say(": ");
     match end {
-        Some(Ok(end)) => write!(told, "{end}")?,
-        Some(Err(error)) => write_error(error, told)?,
-        None => told.push_str("DIFFERS")?,
+        Some(Ok(end)) => told.show(end),
+        Some(Err(error)) => write_error(error, told),
+        None => told.say("DIFFERS"),
     }
-    told.push('\n')
+    told.say("\n");
 }
 
-/// Where a skip of these parts ends, the second one so many times.
-fn end_of(alloc: Global, mode: Mode, parts: Parts<'_>, count: usize) -> Result<Ending, AllocError> {
-    let mut input = String::new(alloc);
-    push_parts(parts, count, &mut input)?;
-    let less = parts.repeated.len().saturating_mul(count);
-    end(alloc, mode, &mut input, less)
-}
-
-/// Appends the parts, the second one so many times.
-fn push_parts(parts: Parts<'_>, count: usize, input: &mut String) -> Result<(), AllocError> {
-    input.push_str(parts.before)?;
+/// Where a skip of these parts ends, the second one so many times, where white space after them changes nothing.
+fn end_of(alloc: Global, mode: Mode, parts: Parts<'_>, count: usize) -> Ending {
+    let mut input = Told::new(alloc);
+    input.say(parts.before);
     for _ in 0..count {
-        input.push_str(parts.repeated)?;
+        input.say(parts.repeated);
     }
-    input.push_str(parts.after)
-}
-
-/// Where a skip of the input's root ends, so many bytes less, where white space after it changes nothing.
-fn end(alloc: Global, mode: Mode, input: &mut String, less: usize) -> Result<Ending, AllocError> {
-    let alone = skip_end(alloc, mode, input.as_bytes(), less);
-    input.push_str(BLANK)?;
-    if skip_end(alloc, mode, input.as_bytes(), less) == alone {
-        Ok(alone)
+    input.say(parts.after);
+    let less = parts.repeated.len().saturating_mul(count);
+    let alone = skip_end(alloc, mode, input.as_str(), less);
+    input.say(BLANK);
+    if skip_end(alloc, mode, input.as_str(), less) == alone {
+        alone
     } else {
-        Ok(None)
+        None
     }
 }
 
 /// Where a skip of the root ends, or its refusal, so many bytes less.
-fn skip_end(alloc: Global, mode: Mode, input: &[u8], less: usize) -> Ending {
-    match passed_by(&mut parser_of(alloc, mode, false, input), Unread::Skip) {
+fn skip_end(alloc: Global, mode: Mode, input: &str, less: usize) -> Ending {
+    let reading = Reading {
+        alloc,
+        mode,
+        is_trusted: false,
+        input: input.as_bytes(),
+    };
+    match passed_by(&mut reading.parser(), Unread::Skip) {
         Ok(Passed::Token(span)) => Some(Ok(span.end().saturating_sub(less))),
         Ok(_) => None,
         Err(ParseError { span, kind }) => {

@@ -2,25 +2,22 @@
 
 use crate::row::{first_word, range};
 use crate::tokens::write_refusal;
-use facet_json::scanner::{ScanError, check_number_strict, check_string_strict};
-use std::alloc::AllocError;
+use crate::told::Told;
+use facet_json::scanner::{check_number_strict, check_string_strict};
 
-/// Writes whether a range of the buffer passes a check, or the refusal: `string` or `number`, and perhaps `START..END`.
-pub fn answer_check(words: &str, buffer: &[u8], told: &mut String) -> Result<(), AllocError> {
+/// Tells whether a range of the buffer passes a check, or the refusal: `string` or `number`, and perhaps `START..END`.
+pub fn answer_check(words: &str, buffer: &[u8], told: &mut Told) {
     let (name, at) = first_word(words);
     let Some((start, end)) = range(at, buffer.len()) else {
-        return told.push_str("NO RANGE\n");
+        return told.line("NO RANGE");
     };
-    match name {
-        "string" => write_passed(&check_string_strict(buffer, start, end), told),
-        "number" => write_passed(&check_number_strict(buffer, start, end), told),
-        _ => told.push_str("NO CHECK\n"),
-    }
-}
-
-fn write_passed(checked: &Result<(), ScanError>, told: &mut String) -> Result<(), AllocError> {
+    let checked = match name {
+        "string" => check_string_strict(buffer, start, end),
+        "number" => check_number_strict(buffer, start, end),
+        _ => return told.line("NO CHECK"),
+    };
     match checked {
-        Ok(()) => told.push_str("passes\n"),
-        Err(error) => write_refusal(error, told),
+        Ok(()) => told.line("passes"),
+        Err(error) => write_refusal(&error, told),
     }
 }

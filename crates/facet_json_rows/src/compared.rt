@@ -2,11 +2,12 @@
 
 use crate::cuts::tell_cuts;
 use crate::shown::{Telling, push, push_answer};
+use crate::told::Told;
 use crate::unread::{Unread, next_span, tell_parts};
 use facet_json::{
     Answer, Call, JsonParser, drive, tree_from_slice, tree_from_slice_jsonc, tree_from_slice_strict,
 };
-use std::alloc::{AllocError, Global};
+use std::alloc::Global;
 
 /// What a parser takes as a document.
 #[derive(Clone, Copy)]
@@ -17,6 +18,54 @@ pub enum Mode {
     Jsonc,
     /// RFC 8259 alone.
     Strict,
+}
+
+/// An input, and how it is read.
+#[derive(Clone, Copy)]
+pub struct Reading<'a> {
+    pub alloc: Global,
+    pub mode: Mode,
+    /// Whether a text's strings are not checked.
+    pub is_trusted: bool,
+    pub input: &'a [u8],
+}
+
+impl<'a> Reading<'a> {
+    /// A parser of the input; one that need not check its strings only where it is a text.
+    pub fn parser(self) -> JsonParser<'a> {
+        match str::from_utf8(self.input) {
+            Ok(text) if self.is_trusted => self.trusting_parser(text),
+            _ => self.checking_parser(),
+        }
+    }
+
+    fn trusting_parser(self, text: &'a str) -> JsonParser<'a> {
+        match self.mode {
+            Mode::Plain => JsonParser::new_trusted(self.alloc, text.as_bytes()),
+            Mode::Jsonc => JsonParser::new_jsonc_trusted(self.alloc, text.as_bytes()),
+            Mode::Strict => JsonParser::new_strict_trusted(self.alloc, text.as_bytes()),
+        }
+    }
+
+    fn checking_parser(self) -> JsonParser<'a> {
+        match self.mode {
+            Mode::Plain => JsonParser::new(self.alloc, self.input),
+            Mode::Jsonc => JsonParser::new_jsonc(self.alloc, self.input),
+            Mode::Strict => JsonParser::new_strict(self.alloc, self.input),
+        }
+    }
+
+    /// What it is called.
+    fn name(self) -> &'static str {
+        match (self.mode, self.is_trusted) {
+            (Mode::Plain, false) => "plain, checked",
+            (Mode::Plain, true) => "plain, trusted",
+            (Mode::Jsonc, false) => "jsonc, checked",
+            (Mode::Jsonc, true) => "jsonc, trusted",
+            (Mode::Strict, false) => "strict, checked",
+            (Mode::Strict, true) => "strict, trusted",
+        }
+    }
 }
 
 /// How an input is asked for what is in it.
@@ -59,155 +108,106 @@ impl Way<'_> {
     }
 }
 
-/// Writes what is told of the input, and each other telling of it.
-pub fn compare(
-    alloc: Global,
-    modes: &[Mode],
-    ways: &[Way<'_>],
-    input: &[u8],
-    written: &mut String,
-) -> Result<(), AllocError> {
+/// Tells what is told of the input, and each other telling of it.
+pub fn compare(alloc: Global, modes: &[Mode], ways: &[Way<'_>], input: &[u8], written: &mut Told) {
     let ([mode, ..], [way, ..]) = (modes, ways) else {
-        return written.push_str("NO MODE\n");
+        return written.line("NO MODE");
     };
-    let told = told(alloc, *mode, false, *way, input)?;
-    writeln!(written, "{told}")?;
-    for mode in modes {
-        write_differences(alloc, *mode, ways, input, told.as_str(), written)?;
-    }
-    Ok(())
+    let told = tell(checked_reading(alloc, *mode, input), *way);
+    written.line(told.as_str());
+    write_differences(alloc, modes, ways, input, told.as_str(), written);
 }
 
-/// Writes what is told of the input in one mode, each time that it isn't this.
-fn write_differences(
-    alloc: Global,
-    mode: Mode,
-    ways: &[Way<'_>],
-    input: &[u8],
-    expected: &str,
-    written: &mut String,
-) -> Result<(), AllocError> {
-    for way in ways {
-        write_difference(alloc, mode, false, *way, input, expected, written)?;
-        write_difference(alloc, mode, true, *way, input, expected, written)?;
-    }
-    Ok(())
-}
-
-/// Writes what is told of the input where it isn't this.
-fn write_difference(
-    alloc: Global,
-    mode: Mode,
-    is_trusted: bool,
-    way: Way<'_>,
-    input: &[u8],
-    expected: &str,
-    written: &mut String,
-) -> Result<(), AllocError> {
-    let told = told(alloc, mode, is_trusted, way, input)?;
-    if told.as_str() == expected {
-        return Ok(());
-    }
-    let kind = if is_trusted { "trusted" } else { "checked" };
-    let (mode, way) = (mode_name(mode), way.name());
-    writeln!(written, "DIFFERS: {mode}, {kind}, {way}: {told}")
-}
-
-/// Writes where these ways to ask, and parsers that trust the input and that check it, tell different things of it.
+/// Tells where these ways to ask, and parsers that trust the input and that check it, tell different things of it.
 pub fn write_disagreement(
     alloc: Global,
     mode: Mode,
     ways: &[Way<'_>],
     input: &[u8],
-    written: &mut String,
-) -> Result<(), AllocError> {
-    let [way, ..] = ways else {
-        return Ok(());
-    };
-    let told = told(alloc, mode, false, *way, input)?;
-    write_differences(alloc, mode, ways, input, told.as_str(), written)
+    written: &mut Told,
+) {
+    if let [way, ..] = ways {
+        let told = tell(checked_reading(alloc, mode, input), *way);
+        write_differences(alloc, &[mode], ways, input, told.as_str(), written);
+    }
 }
 
-/// The name of a mode.
-fn mode_name(mode: Mode) -> &'static str {
-    match mode {
-        Mode::Plain => "plain",
-        Mode::Jsonc => "jsonc",
-        Mode::Strict => "strict",
+/// An input that is checked.
+fn checked_reading(alloc: Global, mode: Mode, input: &[u8]) -> Reading<'_> {
+    Reading {
+        alloc,
+        mode,
+        is_trusted: false,
+        input,
+    }
+}
+
+/// Tells what is told of the input, each time that it isn't this.
+fn write_differences(
+    alloc: Global,
+    modes: &[Mode],
+    ways: &[Way<'_>],
+    input: &[u8],
+    expected: &str,
+    written: &mut Told,
+) {
+    for mode in modes {
+        for way in ways {
+            let checked = checked_reading(alloc, *mode, input);
+            write_difference(checked, *way, expected, written);
+            let is_trusted = true;
+            write_difference(
+                Reading {
+                    is_trusted,
+                    ..checked
+                },
+                *way,
+                expected,
+                written,
+            );
+        }
+    }
+}
+
+/// Tells what is told of the input where it isn't this.
+fn write_difference(reading: Reading<'_>, way: Way<'_>, expected: &str, written: &mut Told) {
+    let told = tell(reading, way);
+    if told.as_str() != expected {
+        for text in &["DIFFERS: ", reading.name(), ", ", way.name(), ": "] {
+            written.say(text);
+        }
+        written.line(told.as_str());
     }
 }
 
 /// What is told of the input.
-fn told(
-    alloc: Global,
-    mode: Mode,
-    is_trusted: bool,
-    way: Way<'_>,
-    input: &[u8],
-) -> Result<String, AllocError> {
-    let mut told = String::new(alloc);
+fn tell(reading: Reading<'_>, way: Way<'_>) -> Told {
+    let mut told = Told::new(reading.alloc);
     match way {
-        Way::Cuts => tell_cuts(alloc, mode, is_trusted, input, &mut told)?,
-        Way::Tree => push_tree(alloc, mode, input, &mut told)?,
-        _ => {
-            let mut parser = parser_of(alloc, mode, is_trusted, input);
-            ask(alloc, &mut parser, way, input.len(), &mut told)?;
-        }
+        Way::Cuts => tell_cuts(reading, &mut told),
+        Way::Tree => push_tree(reading, &mut told),
+        _ => ask(reading, way, &mut told),
     }
-    Ok(told)
+    told
 }
 
-/// Appends what a parser of so many bytes tells when it is asked this way.
-fn ask(
-    alloc: Global,
-    parser: &mut JsonParser<'_>,
-    way: Way<'_>,
-    len: usize,
-    told: &mut String,
-) -> Result<(), AllocError> {
+/// Appends what a parser of the input tells when it is asked this way.
+fn ask(reading: Reading<'_>, way: Way<'_>, told: &mut Told) {
+    let (alloc, len) = (reading.alloc, reading.input.len());
+    let parser = &mut reading.parser();
     match way {
         Way::ByNext => tell_by_next(alloc, parser, len, told),
         Way::ByPeekAndNext => tell_by_peek_and_next(alloc, parser, len, told),
         Way::ByEvents => {
             let calls = [Call::Events(len), Call::Events(0), Call::Next, Call::Span];
-            push_answers(alloc, parser, &calls, Telling::New, told)
+            push_answers(alloc, parser, &calls, Telling::New, told);
         }
         Way::FirstByNext(count) => tell_first_by_next(alloc, parser, count, told),
         Way::FirstByEvents(count) => tell_first_by_events(alloc, parser, count, told),
         Way::ByCalls(calls) => push_answers(alloc, parser, calls, Telling::All, told),
         Way::ByUnread(call, is_peeked) => tell_parts(parser, call, is_peeked, len, told),
-        Way::Tree | Way::Cuts => Ok(()),
+        Way::Tree | Way::Cuts => {}
     }
-}
-
-/// A parser of the input; one that need not check its strings only where it is a text.
-pub fn parser_of<'de>(
-    alloc: Global,
-    mode: Mode,
-    is_trusted: bool,
-    input: &'de [u8],
-) -> JsonParser<'de> {
-    match str::from_utf8(input) {
-        Ok(text) if is_trusted => match mode {
-            Mode::Plain => JsonParser::new_trusted(alloc, text.as_bytes()),
-            Mode::Jsonc => JsonParser::new_jsonc_trusted(alloc, text.as_bytes()),
-            Mode::Strict => JsonParser::new_strict_trusted(alloc, text.as_bytes()),
-        },
-        _ => match mode {
-            Mode::Plain => JsonParser::new(alloc, input),
-            Mode::Jsonc => JsonParser::new_jsonc(alloc, input),
-            Mode::Strict => JsonParser::new_strict(alloc, input),
-        },
-    }
-}
-
-/// The answers to the calls.
-pub fn answers_of<'de>(
-    alloc: Global,
-    parser: &mut JsonParser<'de>,
-    calls: &[Call],
-) -> Result<Vec<Answer<'de>>, AllocError> {
-    drive(alloc, parser, calls)
 }
 
 /// Appends the answers to the calls.
@@ -216,82 +216,60 @@ fn push_answers(
     parser: &mut JsonParser<'_>,
     calls: &[Call],
     telling: Telling,
-    told: &mut String,
-) -> Result<(), AllocError> {
-    let answers = answers_of(alloc, parser, calls)?;
-    for answer in answers.as_slice() {
-        push_answer(alloc, answer, telling, told)?;
+    told: &mut Told,
+) {
+    match drive(alloc, parser, calls) {
+        Ok(answers) => push_each(alloc, answers.as_slice(), telling, told),
+        Err(_) => told.lack(),
     }
-    Ok(())
+}
+
+/// Appends the answers.
+fn push_each(alloc: Global, answers: &[Answer<'_>], telling: Telling, told: &mut Told) {
+    for answer in answers {
+        push_answer(alloc, answer, telling, told);
+    }
 }
 
 /// All events of an input of so many bytes and what comes after them, twice, and then the span.
-fn tell_by_next(
-    alloc: Global,
-    parser: &mut JsonParser<'_>,
-    len: usize,
-    told: &mut String,
-) -> Result<(), AllocError> {
+fn tell_by_next(alloc: Global, parser: &mut JsonParser<'_>, len: usize, told: &mut Told) {
     for _ in 0..=len {
-        push_answers(alloc, parser, &[Call::Next], Telling::New, told)?;
+        push_answers(alloc, parser, &[Call::Next], Telling::New, told);
     }
-    push_answers(alloc, parser, &[Call::Next, Call::Span], Telling::New, told)
+    push_answers(alloc, parser, &[Call::Next, Call::Span], Telling::New, told);
 }
 
 /// The same, each after a look at it, which shows the same.
-fn tell_by_peek_and_next(
-    alloc: Global,
-    parser: &mut JsonParser<'_>,
-    len: usize,
-    told: &mut String,
-) -> Result<(), AllocError> {
+fn tell_by_peek_and_next(alloc: Global, parser: &mut JsonParser<'_>, len: usize, told: &mut Told) {
     for _ in 0..=len {
-        tell_peek_and_next(alloc, parser, told)?;
+        push_answers(alloc, parser, &[Call::Peek], Telling::New, told);
+        let looked = told.len();
+        push_answers(alloc, parser, &[Call::Next], Telling::New, told);
+        if told.len() != looked {
+            push(told, "not the event that was seen", Telling::New);
+        }
     }
-    push_answers(alloc, parser, &[Call::Span], Telling::New, told)
-}
-
-/// An event after a look at it.
-fn tell_peek_and_next(
-    alloc: Global,
-    parser: &mut JsonParser<'_>,
-    told: &mut String,
-) -> Result<(), AllocError> {
-    push_answers(alloc, parser, &[Call::Peek], Telling::New, told)?;
-    let looked = told.len();
-    push_answers(alloc, parser, &[Call::Next], Telling::New, told)?;
-    if told.len() == looked {
-        Ok(())
-    } else {
-        push(told, "not the event that was seen", Telling::New)
-    }
+    push_answers(alloc, parser, &[Call::Span], Telling::New, told);
 }
 
 /// How many of the first so many events come, and then the next one and the span.
-fn tell_first_by_next(
-    alloc: Global,
-    parser: &mut JsonParser<'_>,
-    count: usize,
-    told: &mut String,
-) -> Result<(), AllocError> {
+fn tell_first_by_next(alloc: Global, parser: &mut JsonParser<'_>, count: usize, told: &mut Told) {
     let mut come = 0_usize;
     for _ in 0..count {
         if matches!(next_span(parser), Ok(Some(_))) {
             come = come.saturating_add(1);
         }
     }
-    tell_rest(alloc, parser, come, told)
+    tell_rest(alloc, parser, come, told);
 }
 
 /// The same, all at once.
-fn tell_first_by_events(
-    alloc: Global,
-    parser: &mut JsonParser<'_>,
-    count: usize,
-    told: &mut String,
-) -> Result<(), AllocError> {
-    let answers = answers_of(alloc, parser, &[Call::Events(count)])?;
-    tell_rest(alloc, parser, come_in(answers.as_slice()), told)
+fn tell_first_by_events(alloc: Global, parser: &mut JsonParser<'_>, count: usize, told: &mut Told) {
+    let come = match drive(alloc, parser, &[Call::Events(count)]) {
+        Ok(answers) => come_in(answers.as_slice()),
+        Err(_) => return told.lack(),
+    };
+    tell_rest(alloc, parser, come, told);
 }
 
 /// How many events the first answer has; none where it has other than it says.
@@ -303,22 +281,23 @@ fn come_in(answers: &[Answer<'_>]) -> usize {
 }
 
 /// That so many events came, and then the next one and the span.
-fn tell_rest(
-    alloc: Global,
-    parser: &mut JsonParser<'_>,
-    come: usize,
-    told: &mut String,
-) -> Result<(), AllocError> {
-    write!(told, "{come} events")?;
-    push_answers(alloc, parser, &[Call::Next, Call::Span], Telling::All, told)
+fn tell_rest(alloc: Global, parser: &mut JsonParser<'_>, come: usize, told: &mut Told) {
+    told.show(&come);
+    told.say(" events");
+    push_answers(alloc, parser, &[Call::Next, Call::Span], Telling::All, told);
 }
 
 /// Appends the tree or the refusal.
-fn push_tree(alloc: Global, mode: Mode, input: &[u8], told: &mut String) -> Result<(), AllocError> {
-    let read = match mode {
+fn push_tree(reading: Reading<'_>, told: &mut Told) {
+    let Reading {
+        alloc,
+        mode,
+        input,
+        ..
+    } = reading;
+    told.show(&match mode {
         Mode::Plain => tree_from_slice(alloc, input),
         Mode::Jsonc => tree_from_slice_jsonc(alloc, input),
         Mode::Strict => tree_from_slice_strict(alloc, input),
-    };
-    write!(told, "{read:?}")
+    });
 }

@@ -4,9 +4,10 @@ ghost use Rattle.facet_json.specs.Now.{ahead};
 ghost use Rattle.std.specs.Prelude.{◌≡◌, ◌+◌, ◌^◌, ◌<◌, ◌≤◌, IfOk, length};
 
 use crate::shown::write_error;
+use crate::told::Told;
 use facet_format::{DeserializeError, FormatParser, ParseError};
 use facet_json::JsonParser;
-use std::alloc::{AllocError, Global};
+use std::alloc::Global;
 
 /// How many events come: no more than what is passed of the input.
 fn count<'de, 't, P: FormatParser<'de>>(parser: &mut P) -> Result<usize, ParseError<'t>>
@@ -76,17 +77,21 @@ fn agree(alloc: Global, input: &[u8], counted: Result<usize, ParseError<'static>
     named && read && odd
 }
 
-/// Writes how many events a parser of the input has, or its refusal; and where the other readers differ.
-pub fn answer_count(alloc: Global, input: &[u8], told: &mut String) -> Result<(), AllocError> {
+/// Tells how many events a parser of the input has, or its refusal; and where the other readers differ.
+pub fn answer_count(alloc: Global, input: &[u8], told: &mut Told) {
     let counted = count_in(alloc, input);
     if !agree(alloc, input, counted) {
-        return told.push_str("DIFFERS: another reader\n");
+        return told.line("DIFFERS: another reader");
     }
     match counted {
-        Ok(count) => writeln!(told, "{count} events"),
-        Err(error) => {
-            write_error(&error, told)?;
-            told.push('\n')
-        }
+        Ok(count) => told.show(&count),
+        Err(error) => return write_refused(&error, told),
     }
+    told.line(" events");
+}
+
+/// Tells the refusal.
+fn write_refused(error: &ParseError<'_>, told: &mut Told) {
+    write_error(error, told);
+    told.say("\n");
 }

@@ -1,29 +1,24 @@
 //! Inputs cut after each of their bytes.
 
-use crate::compared::{Mode, Way, compare, parser_of, write_disagreement};
+use crate::compared::{Mode, Reading, Way, compare, write_disagreement};
 use crate::row::ALL_EVENTS;
+use crate::told::Told;
 use crate::unread::{Passed, Unread, last_span, next_span, passed_by, write_passed};
 use facet_format::{ParseError, Span};
 use facet_json::JsonParser;
-use std::alloc::{AllocError, Global};
+use std::alloc::Global;
 
 /// What is passed of a prefix, or the refusal.
 type Cut = Result<Passed, ParseError<'static>>;
 
-/// Writes what comes of each prefix of the input, and where parsers of a prefix, or ways to ask them, tell different things.
-pub fn answer_cuts(
-    alloc: Global,
-    modes: &[Mode],
-    input: &[u8],
-    told: &mut String,
-) -> Result<(), AllocError> {
-    compare(alloc, modes, &[Way::Cuts], input, told)?;
+/// Tells what comes of each prefix of the input, and where parsers of a prefix, or ways to ask them, tell different things.
+pub fn answer_cuts(alloc: Global, modes: &[Mode], input: &[u8], told: &mut Told) {
+    compare(alloc, modes, &[Way::Cuts], input, told);
     for mode in modes {
         for len in 0..=input.len() {
-            write_disagreements(alloc, *mode, &input[..len], told)?;
+            write_disagreements(alloc, *mode, &input[..len], told);
         }
     }
-    Ok(())
 }
 
 /// The ways to skip and to capture each part.
@@ -34,68 +29,45 @@ static UNREAD: [Way<'static>; 4] = [
     Way::ByUnread(Unread::Capture, true),
 ];
 
-/// Writes where parsers of the input, or ways to ask them, tell different things.
-fn write_disagreements(
-    alloc: Global,
-    mode: Mode,
-    input: &[u8],
-    told: &mut String,
-) -> Result<(), AllocError> {
-    write_disagreement(alloc, mode, &ALL_EVENTS, input, told)?;
+/// Tells where parsers of the input, or ways to ask them, tell different things.
+fn write_disagreements(alloc: Global, mode: Mode, input: &[u8], told: &mut Told) {
+    write_disagreement(alloc, mode, &ALL_EVENTS, input, told);
     for way in &UNREAD {
-        write_disagreement(alloc, mode, &[*way], input, told)?;
+        write_disagreement(alloc, mode, &[*way], input, told);
     }
-    Ok(())
 }
 
 /// Of each prefix of the input, the empty one first: how many events come, and then the end or the refusal; and what a skip and a
 /// capture of its root do, unless both are refused alike.
-pub fn tell_cuts(
-    alloc: Global,
-    mode: Mode,
-    is_trusted: bool,
-    input: &[u8],
-    told: &mut String,
-) -> Result<(), AllocError> {
-    for len in 0..=input.len() {
+pub fn tell_cuts(reading: Reading<'_>, told: &mut Told) {
+    for len in 0..=reading.input.len() {
         if len > 0 {
-            told.push_str("; ")?;
+            told.say("; ");
         }
-        tell_cut(alloc, &input[..len], mode, is_trusted, told)?;
+        let input = &reading.input[..len];
+        tell_cut(Reading { input, ..reading }, told);
     }
-    Ok(())
 }
 
 /// What comes of a prefix.
-fn tell_cut(
-    alloc: Global,
-    input: &[u8],
-    mode: Mode,
-    is_trusted: bool,
-    told: &mut String,
-) -> Result<(), AllocError> {
-    let mut parser = parser_of(alloc, mode, is_trusted, input);
-    let come = come_in(&mut parser, input.len());
-    let end = end_of(&mut parser, input.len());
-    write!(told, "{come}, ")?;
-    write_cut(end, told)?;
-    let skip = passed_by(&mut parser_of(alloc, mode, is_trusted, input), Unread::Skip);
-    let capture = passed_by(
-        &mut parser_of(alloc, mode, is_trusted, input),
-        Unread::Capture,
-    );
-    tell_unread(skip, capture, end, told)
+fn tell_cut(reading: Reading<'_>, told: &mut Told) {
+    let end = tell_events(&mut reading.parser(), reading.input.len(), told);
+    write_cut(end, told);
+    let skip = passed_by(&mut reading.parser(), Unread::Skip);
+    let capture = passed_by(&mut reading.parser(), Unread::Capture);
+    if !(is_refused_so(skip, end) && is_refused_so(capture, end)) {
+        told.say(", ");
+        write_cut(skip, told);
+        told.say(", ");
+        write_cut(capture, told);
+    }
 }
 
-/// What a skip and a capture of the root do, unless both are refused as the events are.
-fn tell_unread(skip: Cut, capture: Cut, end: Cut, told: &mut String) -> Result<(), AllocError> {
-    if is_refused_so(skip, end) && is_refused_so(capture, end) {
-        return Ok(());
-    }
-    told.push_str(", ")?;
-    write_cut(skip, told)?;
-    told.push_str(", ")?;
-    write_cut(capture, told)
+/// Tells how many events come of a prefix of so many bytes, and answers the end or the refusal.
+fn tell_events(parser: &mut JsonParser<'_>, len: usize, told: &mut Told) -> Cut {
+    told.show(&come_in(parser, len));
+    told.say(", ");
+    end_of(parser, len)
 }
 
 /// Whether both are refusals of one number and span.
@@ -144,13 +116,14 @@ fn comes(parser: &mut JsonParser<'_>, len: usize) -> Option<Result<bool, ParseEr
     }
 }
 
-/// Writes what is passed, or the refusal's number and span.
-fn write_cut(cut: Cut, told: &mut String) -> Result<(), AllocError> {
+/// Tells what is passed, or the refusal's number and span.
+fn write_cut(cut: Cut, told: &mut Told) {
     match cut {
         Ok(passed) => write_passed(passed, told),
         Err(error) => {
-            let (code, span) = (error.kind.code(), error.span);
-            write!(told, "{code} {}+{}", span.offset, span.len)
+            told.show(&error.kind.code());
+            told.say(" ");
+            told.span(error.span);
         }
     }
 }

@@ -1,95 +1,106 @@
 //! What a string's content is decoded to, by each decoder.
 
-ghost use Rattle.std.specs.Prelude.{◌≤◌, length};
+ghost use Rattle.std.specs.Prelude.{◌≤◌, length, slice_range, IsUtf8};
 
 use crate::row::range;
 use crate::tokens::write_refusal;
+use crate::told::Told;
 use facet_json::scanner::{
-    DecodeError, ScanError, check_content, decode_string, decode_string_borrowed,
+    DecodeError, check_content, decode_string, decode_string_borrowed,
     decode_string_borrowed_unchecked, decode_string_owned, decode_string_owned_unchecked,
     decode_string_unchecked,
 };
-use std::alloc::{AllocError, Global};
+use std::alloc::Global;
 use std::borrow::CowStr;
 
-/// Writes what `decode_string` makes of the content at this range of the buffer: as one with escapes, and then as one without.
+/// What a content is decoded to, in memory of its own.
+type Owned = Result<String, DecodeError>;
+
+/// What a content is decoded to, each way.
+#[derive(Clone, Copy)]
+struct Made<'a> {
+    owned: &'a Owned,
+    borrowed: Option<&'a str>,
+}
+
+/// Tells what `decode_string` makes of the content at this range of the buffer: as one with escapes, and then as one without.
 /// Where another decoder makes something else of it, there is a line for that.
-pub fn answer_decode(
-    alloc: Global,
-    words: &str,
-    buffer: &[u8],
-    told: &mut String,
-) -> Result<(), AllocError> {
+pub fn answer_decode(alloc: Global, words: &str, buffer: &[u8], told: &mut Told) {
     let Some((start, end)) = range(words, buffer.len()) else {
-        return told.push_str("NO RANGE\n");
+        return told.line("NO RANGE");
     };
-    write_decoded(&decode_string(alloc, buffer, start, end, true), told)?;
-    write_decoded(&decode_string(alloc, buffer, start, end, false), told)?;
-    if agree(alloc, buffer, start, end) {
-        return Ok(());
-    }
-    told.push_str("DIFFERS: another decoder\n")
-}
-
-fn write_decoded(
-    decoded: &Result<CowStr<'_>, DecodeError>,
-    told: &mut String,
-) -> Result<(), AllocError> {
-    match decoded {
-        Ok(CowStr::Borrowed(text)) => writeln!(told, "borrowed {text:?}"),
-        Ok(CowStr::Owned(text)) => writeln!(told, "owned {text:?}"),
-        Err(DecodeError::Scan(error)) => write_refusal(error, told),
-        Err(DecodeError::OutOfMemory) => told.push_str("out of memory\n"),
-    }
-}
-
-/// Whether each decoder makes the same of the content, and those for UTF-8 where it is.
-fn agree(alloc: Global, buffer: &[u8], start: usize, end: usize) -> bool
-    requires in_order { start ≤ end }
-    requires in_range { end ≤ length buffer.now }
-{
+    write_decoded(&decode_string(alloc, buffer, start, end, true), told);
+    write_decoded(&decode_string(alloc, buffer, start, end, false), told);
     let owned = decode_string_owned(alloc, buffer, start, end);
-    let borrowed = decode_string_borrowed(buffer, start, end);
-    is_owned(&decode_string(alloc, buffer, start, end, true), &owned)
-        && is_checked(&check_content(buffer, start, end), &owned)
-        && is_borrowed(&decode_string(alloc, buffer, start, end, false), borrowed)
-        && unchecked_agree(alloc, buffer, start, end, &owned, borrowed)
+    if !all_agree(alloc, buffer, start, end, &owned) {
+        told.line("DIFFERS: another decoder");
+    }
 }
 
-/// Whether the decoders for UTF-8 make this of the content where it is.
-fn unchecked_agree(
-    alloc: Global,
-    buffer: &[u8],
-    start: usize,
-    end: usize,
-    owned: &Result<String, DecodeError>,
-    borrowed: Option<&str>,
-) -> bool
+fn write_decoded(decoded: &Result<CowStr<'_>, DecodeError>, told: &mut Told) {
+    match decoded {
+        Ok(CowStr::Borrowed(text)) => {
+            told.say("borrowed ");
+            told.show_line(text);
+        }
+        Ok(CowStr::Owned(text)) => {
+            told.say("owned ");
+            told.show_line(text);
+        }
+        Err(DecodeError::Scan(error)) => write_refusal(error, told),
+        Err(DecodeError::OutOfMemory) => told.line("out of memory"),
+    }
+}
+
+/// Whether each decoder makes this of the content, and those for UTF-8 where it is.
+fn all_agree(alloc: Global, buffer: &[u8], start: usize, end: usize, owned: &Owned) -> bool
     requires in_order { start ≤ end }
     requires in_range { end ≤ length buffer.now }
 {
-    match str::from_utf8(&buffer[start..end]) {
-        Ok(_) => {
-            decode_string_owned_unchecked(alloc, buffer, start, end) == *owned
-                && is_owned(
-                    &decode_string_unchecked(alloc, buffer, start, end, true),
-                    owned,
-                )
-                && decode_string_borrowed_unchecked(buffer, start, end) == borrowed
-                && is_borrowed(
-                    &decode_string_unchecked(alloc, buffer, start, end, false),
-                    borrowed,
-                )
+    let made = Made {
+        owned,
+        borrowed: decode_string_borrowed(buffer, start, end),
+    };
+    checked_agree(alloc, buffer, start, end, made)
+        && match str::from_utf8(&buffer[start..end]) {
+            Ok(_) => unchecked_agree(alloc, buffer, start, end, made),
+            Err(_) => true,
         }
-        Err(_) => true,
-    }
+}
+
+/// Whether the decoders that check a content make this of it.
+fn checked_agree(alloc: Global, buffer: &[u8], start: usize, end: usize, made: Made<'_>) -> bool
+    requires in_order { start ≤ end }
+    requires in_range { end ≤ length buffer.now }
+{
+    let Made { owned, borrowed } = made;
+    let as_owned = is_owned(&decode_string(alloc, buffer, start, end, true), owned);
+    let as_borrowed = is_borrowed(&decode_string(alloc, buffer, start, end, false), borrowed);
+    let as_checked = match (check_content(buffer, start, end), owned) {
+        (Ok(()), Ok(_)) => true,
+        (Err(error), Err(DecodeError::Scan(owned))) => error == *owned,
+        _ => false,
+    };
+    as_owned && as_borrowed && as_checked
+}
+
+/// Whether the decoders for UTF-8 make this of the content.
+fn unchecked_agree(alloc: Global, buffer: &[u8], start: usize, end: usize, made: Made<'_>) -> bool
+    requires in_order { start ≤ end }
+    requires in_range { end ≤ length buffer.now }
+    requires utf8 { IsUtf8 (slice_range buffer.now start end) }
+{
+    let all_owned = decode_string_owned_unchecked(alloc, buffer, start, end) == *made.owned;
+    let decoded = decode_string_unchecked(alloc, buffer, start, end, true);
+    let as_owned = is_owned(&decoded, made.owned);
+    let decoded = decode_string_unchecked(alloc, buffer, start, end, false);
+    let as_borrowed = is_borrowed(&decoded, made.borrowed);
+    let all_borrowed = decode_string_borrowed_unchecked(buffer, start, end) == made.borrowed;
+    all_owned && as_owned && as_borrowed && all_borrowed
 }
 
 /// Whether a content is decoded to this, in memory of its own.
-fn is_owned(
-    decoded: &Result<CowStr<'_>, DecodeError>,
-    owned: &Result<String, DecodeError>,
-) -> bool {
+fn is_owned(decoded: &Result<CowStr<'_>, DecodeError>, owned: &Owned) -> bool {
     match (decoded, owned) {
         (Ok(CowStr::Owned(text)), Ok(owned)) => text == owned,
         (Err(error), Err(owned)) => error == owned,
@@ -106,42 +117,21 @@ fn is_borrowed(decoded: &Result<CowStr<'_>, DecodeError>, borrowed: Option<&str>
     }
 }
 
-/// Whether a content is refused as this is.
-fn is_checked(checked: &Result<(), ScanError>, owned: &Result<String, DecodeError>) -> bool {
-    match (checked, owned) {
-        (Ok(()), Ok(_)) => true,
-        (Err(error), Err(DecodeError::Scan(owned))) => error == owned,
-        _ => false,
-    }
-}
-
-/// Writes whether the content before the `|`, repeated so often, is decoded to the text after it, repeated as often.
-pub fn answer_repeated(
-    alloc: Global,
-    count: &str,
-    input: &str,
-    told: &mut String,
-) -> Result<(), AllocError> {
+/// Tells whether the content before the `|`, repeated so often, is decoded to the text after it, repeated as often.
+pub fn answer_repeated(alloc: Global, count: &str, input: &str, told: &mut Told) {
     match (input.split_once('|'), count.parse()) {
         (Some((content, text)), Ok(count)) => {
-            let holds = repeats(alloc, content, text, count);
-            writeln!(told, "{holds}")
+            told.show_line(&repeats(alloc, content, text, count));
         }
-        _ => told.push_str("NO COUNT\n"),
+        _ => told.line("NO COUNT"),
     }
 }
 
 fn repeats(alloc: Global, content: &str, text: &str, count: usize) -> bool {
-    match text.repeat(alloc, count) {
-        Ok(text) => repeats_to(alloc, content, count, text.as_str()),
-        Err(_) => false,
-    }
-}
-
-fn repeats_to(alloc: Global, content: &str, count: usize, text: &str) -> bool {
-    match content.repeat(alloc, count) {
-        Ok(content) => decodes_to(alloc, content.as_bytes(), text),
-        Err(_) => false,
+    let content = content.repeat(alloc, count);
+    match (content, text.repeat(alloc, count)) {
+        (Ok(content), Ok(text)) => decodes_to(alloc, content.as_bytes(), text.as_str()),
+        _ => false,
     }
 }
 

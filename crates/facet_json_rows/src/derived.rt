@@ -1,5 +1,6 @@
 //! What the public types derive: copies, equality and how they are shown.
 
+use crate::told::Told;
 use facet_format::numeral::NumberHint;
 use facet_format::{DeserializeErrorKind, Span};
 use facet_json::scanner::{
@@ -8,7 +9,7 @@ use facet_json::scanner::{
 use facet_json::{
     Answer, Call, JsonParser, JsonSerializeError, MaterializedToken, RawJson, TokenKind,
 };
-use std::alloc::{AllocError, Global};
+use std::alloc::Global;
 use std::fmt::Debug;
 
 const SPAN: Span = Span { offset: 0, len: 1 };
@@ -72,144 +73,122 @@ fn is_copied<T: Clone + PartialEq + Drop>(value: &T, other: &T) -> bool {
     }
 }
 
-/// Writes the value as it is shown, and whether it is unlike its copy or like another value.
-fn write_copied<T: Clone + PartialEq + Debug + Drop>(
-    value: &T,
-    other: &T,
-    told: &mut String,
-) -> Result<(), AllocError> {
-    if is_copied(value, other) {
-        writeln!(told, "{value:?}")
-    } else {
-        writeln!(told, "DIFFERS: {value:?}")
+/// Tells the value as it is shown, and whether it is unlike its copy or like another value.
+fn write_copied<T: Clone + PartialEq + Debug + Drop>(value: &T, other: &T, told: &mut Told) {
+    if !is_copied(value, other) {
+        told.say("DIFFERS: ");
     }
+    told.show_line(value);
 }
 
-/// Writes the value as it is shown, and whether it is unlike itself or like another value.
-fn write_equal<T: PartialEq + Debug>(
-    value: &T,
-    other: &T,
-    told: &mut String,
-) -> Result<(), AllocError> {
-    if value == value && value != other {
-        writeln!(told, "{value:?}")
-    } else {
-        writeln!(told, "DIFFERS: {value:?}")
+/// Tells the value as it is shown, and whether it is unlike itself or like another value.
+fn write_equal<T: PartialEq + Debug>(value: &T, other: &T, told: &mut Told) {
+    if !(value == value && value != other) {
+        told.say("DIFFERS: ");
     }
+    told.show_line(value);
 }
 
-/// Writes values of the types of these words.
-pub fn answer_derived(alloc: Global, words: &str, told: &mut String) -> Result<(), AllocError> {
+/// Tells values of the types of these words.
+pub fn answer_derived(alloc: Global, words: &str, told: &mut Told) {
     match words {
         "tokens" => write_tokens(told),
         "refused scans" => write_refused_scans(told),
         "numbers" => write_numbers(told),
         "calls" => write_calls(told),
         "parser" => write_parser(alloc, told),
-        "answer" => writeln!(told, "{:?}", Answer::Restored),
+        "answer" => told.show_line(&Answer::Restored),
         "kinds of refusals" => write_kinds(told),
         "refused writing" => write_refused_writing(told),
         "raw text" => write_raw(alloc, told),
-        _ => told.push_str("NO TYPES\n"),
+        _ => told.line("NO TYPES"),
     }
 }
 
-fn write_tokens(told: &mut String) -> Result<(), AllocError> {
-    write_copied(&Mode::Plain, &Mode::Jsonc, told)?;
+fn write_tokens(told: &mut Told) {
+    write_copied(&Mode::Plain, &Mode::Jsonc, told);
     for token in &TOKENS {
-        write_copied(token, &Token::Eof, told)?;
+        write_copied(token, &Token::Eof, told);
     }
-    write_copied(&Token::Eof, &Token::Null, told)?;
-    let comma = SpannedToken {
-        token: Token::Comma,
-        span: SPAN,
-    };
-    let colon = SpannedToken {
-        token: Token::Colon,
-        span: SPAN,
-    };
-    write_copied(&comma, &colon, told)
+    write_copied(&Token::Eof, &Token::Null, told);
+    let (span, token) = (SPAN, Token::Comma);
+    let comma = SpannedToken { token, span };
+    let token = Token::Colon;
+    write_copied(&comma, &SpannedToken { token, span }, told);
 }
 
-fn write_refused_scans(told: &mut String) -> Result<(), AllocError> {
+fn write_refused_scans(told: &mut Told) {
     for kind in &KINDS {
-        write_copied(kind, &ScanErrorKind::UnexpectedChar('y'), told)?;
+        write_copied(kind, &ScanErrorKind::UnexpectedChar('y'), told);
     }
-    let unexpected = ScanError {
-        kind: ScanErrorKind::UnexpectedChar('x'),
-        span: SPAN,
-    };
-    let invalid = ScanError {
-        kind: ScanErrorKind::InvalidUtf8,
-        span: SPAN,
-    };
-    write_copied(&unexpected, &invalid, told)?;
-    write_equal(&DecodeError::Scan(invalid), &DecodeError::OutOfMemory, told)?;
-    writeln!(told, "{:?}", DecodeError::OutOfMemory)
+    let (span, kind) = (SPAN, ScanErrorKind::UnexpectedChar('x'));
+    let unexpected = ScanError { kind, span };
+    let kind = ScanErrorKind::InvalidUtf8;
+    let invalid = ScanError { kind, span };
+    write_copied(&unexpected, &invalid, told);
+    write_equal(&DecodeError::Scan(invalid), &DecodeError::OutOfMemory, told);
+    told.show_line(&DecodeError::OutOfMemory);
 }
 
-fn write_numbers(told: &mut String) -> Result<(), AllocError> {
-    let three = ParsedNumber::U64(3);
-    write_equal(&ParsedNumber::U64(1), &three, told)?;
-    write_equal(&ParsedNumber::I64(-1), &three, told)?;
-    write_equal(&ParsedNumber::U128(2), &three, told)?;
-    write_equal(&ParsedNumber::I128(-2), &three, told)
+fn write_numbers(told: &mut Told) {
+    for number in &[
+        ParsedNumber::U64(1),
+        ParsedNumber::I64(-1),
+        ParsedNumber::U128(2),
+        ParsedNumber::I128(-2),
+    ] {
+        write_equal(number, &ParsedNumber::U64(3), told);
+    }
 }
 
-fn write_calls(told: &mut String) -> Result<(), AllocError> {
-    let token = MaterializedToken {
-        kind: TokenKind::U64(7),
-        span: SPAN,
-    };
-    writeln!(told, "{:?}\n{token:?}", token.kind)?;
-    write_equal(&Call::Events(2), &Call::Events(3), told)
+fn write_calls(told: &mut Told) {
+    let (kind, span) = (TokenKind::U64(7), SPAN);
+    told.show_line(&kind);
+    told.show_line(&MaterializedToken { kind, span });
+    write_equal(&Call::Events(2), &Call::Events(3), told);
 }
 
-/// Writes the name under which a parser is shown.
-fn write_parser(alloc: Global, told: &mut String) -> Result<(), AllocError> {
-    let shown = parser_shown(alloc)?;
-    let (name, _) = shown.split_once(" {").unwrap_or(("", ""));
-    writeln!(told, "{name}")
+/// Tells the name under which a parser is shown.
+fn write_parser(alloc: Global, told: &mut Told) {
+    let mut shown = Told::new(alloc);
+    shown.show(&JsonParser::new(alloc, b"[]"));
+    let (name, _) = shown.as_str().split_once(" {").unwrap_or(("", ""));
+    told.line(name);
 }
 
-fn parser_shown(alloc: Global) -> Result<String, AllocError> {
-    format!(in alloc; "{:?}", JsonParser::new(alloc, b"[]"))
-}
-
-fn write_kinds(told: &mut String) -> Result<(), AllocError> {
+fn write_kinds(told: &mut Told) {
     for kind in &CODES {
-        writeln!(told, "{} {kind:?}", kind.code())?;
+        told.show(&kind.code());
+        told.say(" ");
+        told.show_line(kind);
     }
-    Ok(())
 }
 
-fn write_refused_writing(told: &mut String) -> Result<(), AllocError> {
+fn write_refused_writing(told: &mut Told) {
     let error = JsonSerializeError::OutOfMemory;
-    writeln!(told, "{} {error}", error.code())
+    told.show(&error.code());
+    told.say(" ");
+    told.display_line(&error);
 }
 
-/// Writes how a raw text is shown, and one that is in memory of its own.
-fn write_raw(alloc: Global, told: &mut String) -> Result<(), AllocError> {
-    writeln!(told, "{:?}", RawJson::new("{\"a\":1}"))?;
+/// Tells how a raw text is shown, and one that is in memory of its own, after it is asked for that once more.
+fn write_raw(alloc: Global, told: &mut Told) {
+    told.show_line(&RawJson::new("{\"a\":1}"));
     match RawJson::new("[1, 2]").into_owned(alloc) {
         Ok(owned) => write_raw_again(alloc, owned, told),
-        Err(_) => told.push_str("OUT OF MEMORY\n"),
+        Err(_) => told.lack(),
     }
 }
 
-/// Writes a raw text that is asked once more to be in memory of its own.
-fn write_raw_again(alloc: Global, owned: RawJson<'_>, told: &mut String) -> Result<(), AllocError> {
+/// Tells a raw text that is asked once more to be in memory of its own, and whether it is unlike the same text or like another.
+fn write_raw_again(alloc: Global, owned: RawJson<'_>, told: &mut Told) {
     match owned.into_owned(alloc) {
-        Ok(again) => write_raw_equal(&again, told),
-        Err(_) => told.push_str("OUT OF MEMORY\n"),
-    }
-}
-
-/// Writes the raw text, and whether it is unlike the same text or like another.
-fn write_raw_equal(raw: &RawJson<'_>, told: &mut String) -> Result<(), AllocError> {
-    if *raw == RawJson::new("[1, 2]") && *raw != RawJson::new("[1,2]") {
-        writeln!(told, "{raw}")
-    } else {
-        writeln!(told, "DIFFERS: {raw}")
+        Ok(raw) => {
+            if !(raw == RawJson::new("[1, 2]") && raw != RawJson::new("[1,2]")) {
+                told.say("DIFFERS: ");
+            }
+            told.display_line(&raw);
+        }
+        Err(_) => told.lack(),
     }
 }

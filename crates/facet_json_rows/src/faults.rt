@@ -1,8 +1,10 @@
 //! Runs of the program over readers and writers that fail at one of their calls.
 
+use crate::scans::{Scan, with_failed_scan};
+use crate::told::Told;
 use facet_json_command::outcome::{OUT_OF_MEMORY, Outcome};
 use facet_json_command::run::run;
-use std::alloc::{AllocError, Global};
+use std::alloc::Global;
 use std::io;
 use std::io::{ErrorKind, Read, Write};
 
@@ -143,13 +145,11 @@ pub fn run_over<R: Read, W: Write>(
 }
 
 /// A run of which one read fails. It tells of that, and writes nothing.
-fn with_failed_read(
-    alloc: Global,
-    case: &Case<'_>,
-    at: usize,
-    kind: ErrorKind,
-    told: Outcome,
-) -> Ended {
+fn with_failed_read(alloc: Global, case: &Case<'_>, kind: ErrorKind, at: usize) -> Ended {
+    let told = match kind {
+        ErrorKind::OutOfMemory => OUT_OF_MEMORY,
+        _ => Outcome::Io,
+    };
     let mut reader = FaultyReader::new(case.input, at, kind);
     let mut written = Vec::new(alloc);
     let outcome = run_over(alloc, case.args, &mut reader, &mut written);
@@ -178,47 +178,51 @@ fn with_failed_write(alloc: Global, case: &Case<'_>, at: usize) -> Ended {
 }
 
 /// More calls than any run makes.
-pub const MANY_CALLS: usize = 100_000;
+const MANY_CALLS: usize = 100_000;
 
-/// Whether a run tells of each read that fails.
-fn tells_of_reads(alloc: Global, case: &Case<'_>, kind: ErrorKind, told: Outcome) -> bool {
-    for at in 0..MANY_CALLS {
-        match with_failed_read(alloc, case, at, kind, told) {
-            Ended::Told => {}
-            Ended::Answered => return true,
-            Ended::Wrong => return false,
+/// A run of which each call fails in turn.
+#[derive(Clone, Copy)]
+pub enum Trial<'a> {
+    /// Reads of the program fail so.
+    Read(&'a Case<'a>, ErrorKind),
+    /// Writes and flushes of the program fail.
+    Write(&'a Case<'a>),
+    /// Reads of a scan fail.
+    Scan(Scan<'a>),
+}
+
+impl Trial<'_> {
+    /// How the run ends whose call of this number fails.
+    fn ended(self, alloc: Global, at: usize) -> Ended {
+        match self {
+            Trial::Read(case, kind) => with_failed_read(alloc, case, kind, at),
+            Trial::Write(case) => with_failed_write(alloc, case, at),
+            Trial::Scan(scan) => with_failed_scan(alloc, scan, at),
         }
     }
-    false
-}
 
-/// Whether a run tells of each write and flush that fails.
-fn tells_of_writes(alloc: Global, case: &Case<'_>) -> bool {
-    for at in 0..MANY_CALLS {
-        match with_failed_write(alloc, case, at) {
-            Ended::Told => {}
-            Ended::Answered => return true,
-            Ended::Wrong => return false,
+    /// Whether the run tells of each call that fails.
+    pub fn tells(self, alloc: Global) -> bool {
+        for at in 0..MANY_CALLS {
+            match self.ended(alloc, at) {
+                Ended::Told => {}
+                Ended::Answered => return true,
+                Ended::Wrong => return false,
+            }
         }
-    }
-    false
-}
-
-/// Writes where a run does not tell of a failure.
-fn write_unless(is_told: bool, place: &str, told: &mut String) -> Result<(), AllocError> {
-    if is_told {
-        Ok(())
-    } else {
-        writeln!(told, "DIFFERS: where {place}")
+        false
     }
 }
 
-/// Writes which failures a run does not tell of.
-pub fn write_untold(alloc: Global, case: &Case<'_>, told: &mut String) -> Result<(), AllocError> {
-    let is_told = tells_of_reads(alloc, case, ErrorKind::BrokenPipe, Outcome::Io);
-    write_unless(is_told, "a read fails", told)?;
-    let is_told = tells_of_reads(alloc, case, ErrorKind::OutOfMemory, OUT_OF_MEMORY);
-    write_unless(is_told, "a read is out of memory", told)?;
-    let is_told = tells_of_writes(alloc, case);
-    write_unless(is_told, "a write fails or waits for a flush", told)
+/// Tells which failures a run does not tell of.
+pub fn write_untold(alloc: Global, case: &Case<'_>, told: &mut Told) {
+    if !Trial::Read(case, ErrorKind::BrokenPipe).tells(alloc) {
+        told.line("DIFFERS: where a read fails");
+    }
+    if !Trial::Read(case, ErrorKind::OutOfMemory).tells(alloc) {
+        told.line("DIFFERS: where a read is out of memory");
+    }
+    if !Trial::Write(case).tells(alloc) {
+        told.line("DIFFERS: where a write fails or waits for a flush");
+    }
 }

@@ -2,34 +2,40 @@
 
 use crate::numbers::answer_number;
 use crate::row::{answer_parser, first_word};
-use std::alloc::{AllocError, Global};
+use crate::told::Told;
+use std::alloc::Global;
 
-/// Writes what a command prints of a long input, `COUNT COUNT | COMMAND`: the parts of the text before and after its `|`, each
+/// Tells what a command prints of a long input, `COUNT COUNT | COMMAND`: the parts of the text before and after its `|`, each
 /// repeated so often.
-pub fn answer_long(
-    alloc: Global,
-    words: &str,
-    text: &str,
-    told: &mut String,
-) -> Result<(), AllocError> {
+pub fn answer_long(alloc: Global, words: &str, text: &str, told: &mut Told) {
     let (counts, command) = words.split_once(" | ").unwrap_or((words, ""));
-    let input = repeated(alloc, counts, text)?;
-    let (name, words) = first_word(command);
-    match name {
-        "number" => answer_number(words, input.as_bytes(), told),
-        "parser" => answer_parser(alloc, words, input.as_bytes(), told),
-        _ => told.push_str("NO COMMAND\n"),
+    let mut input = Told::new(alloc);
+    push_parts(counts, text, &mut input);
+    answer_command(alloc, command, input.as_str().as_bytes(), told);
+}
+
+/// Appends the parts of the text before and after the `|`, each as often as its count says.
+fn push_parts(counts: &str, text: &str, input: &mut Told) {
+    let (part, after) = text.split_once('|').unwrap_or((text, ""));
+    let (count, count_after) = first_word(counts);
+    repeat(part, count, input);
+    repeat(after, count_after, input);
+}
+
+/// Appends the text as often as the count says.
+fn repeat(text: &str, count: &str, input: &mut Told) {
+    let count: usize = count.parse().unwrap_or(0);
+    for _ in 0..count {
+        input.say(text);
     }
 }
 
-/// The parts of the text before and after the `|`, each as often as its count says.
-fn repeated(alloc: Global, counts: &str, text: &str) -> Result<String, AllocError> {
-    let (part, after) = text.split_once('|').unwrap_or((text, ""));
-    let (count, count_after) = first_word(counts);
-    let mut input = part.repeat(alloc, count.parse().unwrap_or(0))?;
-    let count_after: usize = count_after.parse().unwrap_or(0);
-    for _ in 0..count_after {
-        input.push_str(after)?;
+/// Tells what the command prints of the input.
+fn answer_command(alloc: Global, command: &str, input: &[u8], told: &mut Told) {
+    let (name, words) = first_word(command);
+    match name {
+        "number" => answer_number(words, input, told),
+        "parser" => answer_parser(alloc, words, input, told),
+        _ => told.line("NO COMMAND"),
     }
-    Ok(input)
 }

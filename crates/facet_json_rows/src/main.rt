@@ -14,41 +14,42 @@ mod marked;
 mod numbers;
 mod pieces;
 mod printf;
+mod program;
 mod row;
 mod scans;
 mod shown;
 mod tokens;
+mod told;
 mod trees;
 mod unread;
 
-use std::alloc::{AllocError, Global};
+use crate::told::Told;
+use std::alloc::Global;
 use std::io;
-use std::io::{ErrorKind, Read, Write};
+use std::io::{Read, Write};
 
 /// Tells a line of the rows again, and below a command line what it prints.
-fn answer_line(alloc: Global, line: &str, told: &mut String) -> Result<(), AllocError> {
+fn answer_line(alloc: Global, line: &str, told: &mut Told) {
     if line.is_empty() || line.starts_with('#') {
-        return writeln!(told, "{line}");
+        told.line(line);
+    } else {
+        told.say("$ ");
+        told.line(line);
+        row::answer(alloc, line, told);
     }
-    writeln!(told, "$ {line}")?;
-    row::answer(alloc, line, told)
 }
 
-/// Tells each line of the rows again, and below a command line what it prints. The rows have to be a text.
-fn answer(alloc: Global, rows: &[u8], told: &mut String) -> io::Result<()> {
-    let Ok(rows) = str::from_utf8(rows) else {
-        return Err(io::Error::from(ErrorKind::InvalidData));
-    };
+/// Tells each line of the rows again, and below a command line what it prints.
+fn answer(alloc: Global, rows: &str, told: &mut Told) {
     for line in rows.lines() {
-        answer_line(alloc, line, told)?;
+        answer_line(alloc, line, told);
     }
-    Ok(())
 }
 
 fn main(rt: HostRuntime) -> io::Result<()> {
-    let mut rows = Vec::new(rt.alloc());
-    rt.stdin().read_to_end(&mut rows)?;
-    let mut told = String::new(rt.alloc());
-    answer(rt.alloc(), rows.as_slice(), &mut told)?;
-    rt.stdout().write_all(told.as_bytes())
+    let mut rows = String::new(rt.alloc());
+    rt.stdin().read_to_string(&mut rows)?;
+    let mut told = Told::new(rt.alloc());
+    answer(rt.alloc(), rows.as_str(), &mut told);
+    rt.stdout().write_all(told.whole()?.as_bytes())
 }

@@ -4,17 +4,24 @@ ghost use Rattle.std.specs.Prelude.{◌≤◌, length};
 
 use crate::row::{first_word, range};
 use crate::tokens::write_refusal;
+use crate::told::Told;
 use facet_json::scanner::{
     NumberHint, ParsedNumber, ScanError, parse_number, parse_number_unchecked,
 };
-use std::alloc::{AllocError, Global};
 
-/// Writes the number at a range of the buffer, or the refusal: `HINT` or `HINT START..END`.
-pub fn answer_number(words: &str, buffer: &[u8], told: &mut String) -> Result<(), AllocError> {
+/// Tells the number at a range of the buffer, or the refusal: `HINT` or `HINT START..END`. Where the reader of text that is known to be UTF-8
+/// reads another, that is told.
+pub fn answer_number(words: &str, buffer: &[u8], told: &mut Told) {
     let (name, at) = first_word(words);
-    match (hint(name), range(at, buffer.len())) {
-        (Some(hint), Some((start, end))) => write_number(buffer, start, end, hint, told),
-        _ => told.push_str("NO NUMBER\n"),
+    let (Some(hint), Some((start, end))) = (hint(name), range(at, buffer.len())) else {
+        return told.line("NO NUMBER");
+    };
+    let read = parse_number(buffer, start, end, hint);
+    if is_read_again(buffer, start, end, hint, &read) {
+        write_read(&read, told);
+    } else {
+        told.say("DIFFERS: ");
+        told.show_line(&read);
     }
 }
 
@@ -28,31 +35,10 @@ fn hint(name: &str) -> Option<NumberHint> {
     }
 }
 
-/// Writes the number that is read, or the refusal; and where the reader of text that is known to be UTF-8 reads another.
-fn write_number(
-    buffer: &[u8],
-    start: usize,
-    end: usize,
-    hint: NumberHint,
-    told: &mut String,
-) -> Result<(), AllocError>
-    requires in_order { start ≤ end }
-    requires in_range { end ≤ length buffer.now }
-{
-    let read = parse_number(buffer, start, end, hint);
-    if is_read_again(buffer, start, end, hint, &read) {
-        write_read(&read, told)
-    } else {
-        writeln!(told, "DIFFERS: {read:?}")
-    }
-}
-
-fn write_read(
-    read: &Result<ParsedNumber<'_>, ScanError>,
-    told: &mut String,
-) -> Result<(), AllocError> {
+/// Tells the number, or the refusal.
+fn write_read(read: &Result<ParsedNumber<'_>, ScanError>, told: &mut Told) {
     match read {
-        Ok(number) => writeln!(told, "{number:?}"),
+        Ok(number) => told.show_line(number),
         Err(error) => write_refusal(error, told),
     }
 }

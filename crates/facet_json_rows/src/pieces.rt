@@ -1,9 +1,9 @@
 //! Whatever the pieces in which an input comes, a scanner returns what is cut of the whole.
 
 use crate::tokens::passed;
+use crate::told::Told;
 use facet_json::Span;
 use facet_json::scanner::{Mode, ScanResult, Scanner, Token, cut};
-use std::alloc::AllocError;
 
 /// What a call came to.
 #[derive(Clone, Copy)]
@@ -103,29 +103,30 @@ pub fn agree(input: &[u8]) -> bool {
     both_agree(input, 0, 1)
 }
 
-/// Writes the input where scanners find other tokens of its pieces.
-pub fn write_other_pieces(input: &[u8], told: &mut String) -> Result<(), AllocError> {
-    if agree(input) {
-        return Ok(());
+/// Tells the input where scanners find other tokens of its pieces.
+pub fn write_other_pieces(input: &[u8], told: &mut Told) {
+    if !agree(input) {
+        told.say("DIFFERS: in pieces, ");
+        told.show_line(&input);
     }
-    writeln!(told, "DIFFERS: in pieces, {input:?}")
 }
 
-/// Writes each text of one to four of the bytes of whose pieces scanners find other tokens, and how many texts there are.
-pub fn answer_short_texts(bytes: &[u8], told: &mut String) -> Result<(), AllocError> {
+/// Tells each text of one to four of the bytes of whose pieces scanners find other tokens, and how many texts there are.
+pub fn answer_short_texts(bytes: &[u8], told: &mut Told) {
     let mut count = 0_usize;
     for a in bytes {
-        write_other_pieces(&[*a], told)?;
+        write_other_pieces(&[*a], told);
         for b in bytes {
-            write_other_pieces(&[*a, *b], told)?;
+            write_other_pieces(&[*a, *b], told);
             for c in bytes {
-                write_other_pieces(&[*a, *b, *c], told)?;
+                write_other_pieces(&[*a, *b, *c], told);
                 for d in bytes {
-                    write_other_pieces(&[*a, *b, *c, *d], told)?;
+                    write_other_pieces(&[*a, *b, *c, *d], told);
                     count = count.saturating_add(1);
                 }
             }
         }
     }
-    writeln!(told, "{count} texts of four bytes")
+    told.show(&count);
+    told.line(" texts of four bytes");
 }

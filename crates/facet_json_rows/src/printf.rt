@@ -1,7 +1,5 @@
 //! The escapes of the shell's `printf`.
 
-use std::alloc::{AllocError, Global};
-
 /// How far an escape is read.
 #[derive(Clone, Copy)]
 enum Escape {
@@ -15,37 +13,32 @@ enum Escape {
     Digit(u8),
 }
 
-/// The bytes that `printf` writes for the text, which has no escapes but `\\`, `\n`, `\r`, `\t` and `\xHH`, and no percent sign.
-/// Of any other text it answers `None`.
-pub fn printed(alloc: Global, text: &str) -> Result<Option<Vec<u8>>, AllocError> {
-    let mut bytes = Vec::new(alloc);
+/// Whether `printf` writes the text, and there is memory for its bytes, which are appended: it has no escapes but `\\`, `\n`, `\r`, `\t` and
+/// `\xHH`, and no percent sign.
+pub fn is_printed(text: &str, bytes: &mut Vec<u8>) -> bool {
     let mut escape = Escape::Outside;
     for byte in text.bytes() {
-        let Some((next, printed)) = step(escape, byte) else {
-            return Ok(None);
-        };
-        escape = next;
-        if let Some(byte) = printed {
-            bytes.push(byte)?;
+        match step(escape, byte, bytes) {
+            Some(next) => escape = next,
+            None => return false,
         }
     }
-    match escape {
-        Escape::Outside => Ok(Some(bytes)),
-        _ => Ok(None),
-    }
+    matches!(escape, Escape::Outside)
 }
 
-/// How far an escape is read after this byte, and the byte that is printed then.
-fn step(escape: Escape, byte: u8) -> Option<(Escape, Option<u8>)> {
-    match (escape, byte) {
+/// How far an escape is read after this byte, where there is a byte to be printed appended to these.
+fn step(escape: Escape, byte: u8, bytes: &mut Vec<u8>) -> Option<Escape> {
+    let printed = match (escape, byte) {
         (Escape::Outside, b'%') => None,
-        (Escape::Outside, b'\\') => Some((Escape::Backslash, None)),
-        (Escape::Outside, byte) => Some((Escape::Outside, Some(byte))),
-        (Escape::Backslash, b'x') => Some((Escape::Hex, None)),
-        (Escape::Backslash, byte) => Some((Escape::Outside, Some(control(byte)?))),
-        (Escape::Hex, byte) => Some((Escape::Digit(digit(byte)?), None)),
-        (Escape::Digit(high), byte) => { Some((Escape::Outside, Some((high << 4) | digit(byte)?))) }
-    }
+        (Escape::Outside, b'\\') => return Some(Escape::Backslash),
+        (Escape::Outside, byte) => Some(byte),
+        (Escape::Backslash, b'x') => return Some(Escape::Hex),
+        (Escape::Backslash, byte) => control(byte),
+        (Escape::Hex, byte) => return Some(Escape::Digit(digit(byte)?)),
+        (Escape::Digit(high), byte) => Some((high << 4) | digit(byte)?),
+    };
+    bytes.push(printed?).ok()?;
+    Some(Escape::Outside)
 }
 
 /// What a backslash and this character stand for.

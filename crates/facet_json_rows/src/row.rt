@@ -9,30 +9,30 @@ use crate::counted::answer_count;
 use crate::cuts::answer_cuts;
 use crate::decoded::{answer_decode, answer_repeated};
 use crate::derived::answer_derived;
-use crate::faults::{Case, FaultyReader, run_over, write_untold};
 use crate::long::answer_long;
 use crate::marked::answer_marked;
 use crate::numbers::answer_number;
 use crate::pieces::answer_short_texts;
-use crate::printf::printed;
+use crate::printf::is_printed;
+use crate::program::{answer_ended, answer_failed, answer_program};
 use crate::scans::answer_pieces;
 use crate::tokens::{answer_scanner, answer_tokens};
+use crate::told::Told;
 use crate::trees::{answer_equal, answer_write};
 use crate::unread::Unread;
-use facet_json::Span;
-use facet_json_command::outcome::{OUT_OF_MEMORY, Outcome, status, write_line};
 use facet_json_command::script::parse_script;
-use std::alloc::{AllocError, Global};
+use std::alloc::Global;
 use std::io::ErrorKind;
 
-/// Writes what the row's command prints of the text between the quotes: `printf 'TEXT' | COMMAND`.
-pub fn answer(alloc: Global, row: &str, told: &mut String) -> Result<(), AllocError> {
-    let Some((text, command)) = parts(row) else {
-        return told.push_str("NO ROW\n");
-    };
-    match printed(alloc, text)? {
-        Some(input) => answer_command(alloc, command, input.as_slice(), told),
-        None => told.push_str("NO TEXT\n"),
+/// Tells what the row's command prints of the text between the quotes: `printf 'TEXT' | COMMAND`.
+pub fn answer(alloc: Global, row: &str, told: &mut Told) {
+    let mut input = Vec::new(alloc);
+    match parts(row) {
+        Some((text, command)) if is_printed(text, &mut input) => {
+            answer_command(alloc, command, input.as_slice(), told);
+        }
+        Some(_) => told.line("NO TEXT"),
+        None => told.line("NO ROW"),
     }
 }
 
@@ -50,13 +50,8 @@ fn parts(row: &str) -> Option<(&str, &str)> {
     }
 }
 
-/// Writes what the command prints.
-fn answer_command(
-    alloc: Global,
-    command: &str,
-    input: &[u8],
-    told: &mut String,
-) -> Result<(), AllocError> {
+/// Tells what the command prints.
+fn answer_command(alloc: Global, command: &str, input: &[u8], told: &mut Told) {
     let (name, rest) = first_word(command);
     match name {
         "facet_json_tool" => answer_program(alloc, rest, input, told),
@@ -69,14 +64,8 @@ fn answer_command(
     }
 }
 
-/// Writes what a command prints that asks a part of the library.
-fn answer_part(
-    alloc: Global,
-    name: &str,
-    words: &str,
-    input: &[u8],
-    told: &mut String,
-) -> Result<(), AllocError> {
+/// Tells what a command prints that asks a part of the library.
+fn answer_part(alloc: Global, name: &str, words: &str, input: &[u8], told: &mut Told) {
     match name {
         "tokens" => answer_tokens(words, input, told),
         "pieces" => answer_pieces(alloc, input, told),
@@ -87,24 +76,15 @@ fn answer_part(
         "count" => answer_count(alloc, input, told),
         "marked" => answer_marked(alloc, words, input, told),
         "derived" => answer_derived(alloc, words, told),
-        _ => answer_text(
-            alloc,
-            name,
-            words,
-            str::from_utf8(input).unwrap_or(""),
-            told,
-        ),
+        _ => {
+            let text = str::from_utf8(input).unwrap_or("");
+            answer_text(alloc, name, words, text, told);
+        }
     }
 }
 
-/// Writes what a command prints that reads a text.
-fn answer_text(
-    alloc: Global,
-    name: &str,
-    words: &str,
-    text: &str,
-    told: &mut String,
-) -> Result<(), AllocError> {
+/// Tells what a command prints that reads a text.
+fn answer_text(alloc: Global, name: &str, words: &str, text: &str, told: &mut Told) {
     match name {
         "scanner" => answer_scanner(words, text, told),
         "decode_repeated" => answer_repeated(alloc, words, text, told),
@@ -112,7 +92,7 @@ fn answer_text(
         "blocks" => answer_blocks(alloc, modes(words), text, told),
         "equal" => answer_equal(alloc, text, told),
         "write" => answer_write(alloc, words, text, told),
-        _ => told.push_str("NO COMMAND\n"),
+        _ => told.line("NO COMMAND"),
     }
 }
 
@@ -136,105 +116,9 @@ pub fn first_word(text: &str) -> (&str, &str) {
     text.split_once(' ').unwrap_or((text, ""))
 }
 
-/// Writes what the program writes, and which failures of a reader or writer it does not tell of.
-fn answer_program(
-    alloc: Global,
-    words: &str,
-    input: &[u8],
-    told: &mut String,
-) -> Result<(), AllocError> {
-    let args = arguments(alloc, words)?;
-    let mut reader = input;
-    let mut written = Vec::new(alloc);
-    let outcome = run_over(alloc, args.as_slice(), &mut reader, &mut written);
-    write_end(alloc, outcome, written.as_slice(), told)?;
-    let case = Case {
-        args: args.as_slice(),
-        input,
-        outcome,
-        written: written.as_slice(),
-    };
-    write_untold(alloc, &case, told)
-}
-
-/// Writes what the program writes where a read fails once the first bytes are read.
-fn answer_failed(
-    alloc: Global,
-    kind: ErrorKind,
-    command: &str,
-    input: &[u8],
-    told: &mut String,
-) -> Result<(), AllocError> {
-    let Some(words) = command.strip_prefix("facet_json_tool ") else {
-        return told.push_str("NO COMMAND\n");
-    };
-    let args = arguments(alloc, words)?;
-    let mut reader = FaultyReader::new(input, 1, kind);
-    let mut written = Vec::new(alloc);
-    let outcome = run_over(alloc, args.as_slice(), &mut reader, &mut written);
-    write_end(alloc, outcome, written.as_slice(), told)
-}
-
-/// Writes what the program writes at a run's end in this way.
-fn answer_ended(alloc: Global, way: &str, told: &mut String) -> Result<(), AllocError> {
-    let outcome = match way {
-        "done" => Outcome::Done,
-        "io" => Outcome::Io,
-        "memory" => OUT_OF_MEMORY,
-        "usage" => Outcome::Usage,
-        "value" => Outcome::Refused(5, Some(Span::new(1, 40))),
-        _ => return told.push_str("NO END\n"),
-    };
-    write_end(alloc, outcome, b"", told)
-}
-
-/// Writes what the program wrote to its standard output, then its line for the standard error, and its status where that isn't 0.
-fn write_end(
-    alloc: Global,
-    outcome: Outcome,
-    written: &[u8],
-    told: &mut String,
-) -> Result<(), AllocError> {
-    write_lines(written, told)?;
-    let mut line = Vec::new(alloc);
-    if write_line(outcome, &mut line).is_err() {
-        return told.push_str("NO LINE\n");
-    }
-    write_lines(line.as_slice(), told)?;
-    match status(outcome) {
-        0 => Ok(()),
-        status => writeln!(told, "status {status}"),
-    }
-}
-
-/// The words, which blanks part. Single quotes around one are no part of it.
-fn arguments(alloc: Global, words: &str) -> Result<Vec<String>, AllocError> {
-    let mut arguments = Vec::new(alloc);
-    for word in words.split(' ') {
-        if !word.is_empty() {
-            arguments.push(String::from_str(alloc, word.trim_matches('\''))?)?;
-        }
-    }
-    Ok(arguments)
-}
-
-/// Writes the text, and a line feed where its last line lacks one.
-pub fn write_lines(text: &[u8], told: &mut String) -> Result<(), AllocError> {
-    told.push_str(str::from_utf8(text).unwrap_or("NO TEXT"))?;
-    if text.is_empty() || text.ends_with(b"\n") {
-        return Ok(());
-    }
-    told.push('\n')
-}
-
-/// Writes what parsers of the input tell: `MODES all`, `MODES skips`, `MODES captures`, `MODES cuts`, `MODES first COUNT` or
+/// Tells what parsers of the input tell: `MODES all`, `MODES skips`, `MODES captures`, `MODES cuts`, `MODES first COUNT` or
 /// `MODES SCRIPT`.
-pub fn answer_parser(
-    alloc: Global,
-    words: &str,
-    input: &[u8],
-    told: &mut String,
-) -> Result<(), AllocError> {
+pub fn answer_parser(alloc: Global, words: &str, input: &[u8], told: &mut Told) {
     let (word, asked) = first_word(words);
     let modes = modes(word);
     match asked {
@@ -249,17 +133,11 @@ pub fn answer_parser(
     }
 }
 
-/// Writes how many of the first events come, and what comes then.
-fn answer_first(
-    alloc: Global,
-    modes: &[Mode],
-    count: &str,
-    input: &[u8],
-    told: &mut String,
-) -> Result<(), AllocError> {
+/// Tells how many of the first events come, and what comes then.
+fn answer_first(alloc: Global, modes: &[Mode], count: &str, input: &[u8], told: &mut Told) {
     let count = count.parse().unwrap_or(0);
     let ways = [Way::FirstByNext(count), Way::FirstByEvents(count)];
-    compare(alloc, modes, &ways, input, told)
+    compare(alloc, modes, &ways, input, told);
 }
 
 /// The ways to ask for all events.
@@ -276,17 +154,11 @@ static ALL_CAPTURES: [Way<'static>; 2] = [
     Way::ByUnread(Unread::Capture, true),
 ];
 
-/// Writes what parsers of the input answer to the script's calls.
-fn answer_script(
-    alloc: Global,
-    modes: &[Mode],
-    script: &str,
-    input: &[u8],
-    told: &mut String,
-) -> Result<(), AllocError> {
+/// Tells what parsers of the input answer to the script's calls.
+fn answer_script(alloc: Global, modes: &[Mode], script: &str, input: &[u8], told: &mut Told) {
     match parse_script(alloc, script) {
         Ok(calls) => compare(alloc, modes, &[Way::ByCalls(calls.as_slice())], input, told),
-        Err(_) => told.push_str("NO SCRIPT\n"),
+        Err(_) => told.line("NO SCRIPT"),
     }
 }
 

@@ -2,12 +2,13 @@
 
 ghost use Rattle.std.specs.Prelude.{◌<◌};
 
-use crate::faults::{Ended, FaultyReader, MANY_CALLS};
+use crate::faults::{Ended, FaultyReader, Trial};
 use crate::pieces::write_other_pieces;
+use crate::told::Told;
 use facet_json::scanner::{
     Marked, Mode, ScanError, ScanReadError, Scanned, SpannedToken, Token, cut, scan_reader,
 };
-use std::alloc::{AllocError, Global};
+use std::alloc::Global;
 use std::io::{ErrorKind, Read};
 
 /// How many bytes are asked for at a time.
@@ -16,46 +17,48 @@ static STEPS: [usize; 7] = [1, 2, 3, 15, 16, 17, usize::MAX];
 /// The most that a source is asked for at a time, whatever the step.
 const LONGEST_PIECE: usize = 65_536;
 
-/// Writes where scans of the input in pieces, in either mode, find other tokens than are cut of the whole.
-fn write_other_scans(alloc: Global, input: &[u8], told: &mut String) -> Result<(), AllocError> {
+/// A scan of an input that is asked for so many bytes at a time.
+#[derive(Clone, Copy)]
+pub struct Scan<'a> {
+    input: &'a [u8],
+    mode: Mode,
+    step: usize,
+}
+
+/// Tells where scans of the input in pieces, in either mode, find other tokens than are cut of the whole, or do not tell of a read that fails.
+fn write_other_scans(alloc: Global, input: &[u8], told: &mut Told) {
     for step in &STEPS {
-        let plain = agrees(alloc, input, Mode::Plain, *step);
-        if !(plain && agrees(alloc, input, Mode::Jsonc, *step)) {
-            writeln!(told, "DIFFERS: {step} bytes at a time, {input:?}")?;
+        if !(tells(alloc, input, Mode::Plain, *step) && tells(alloc, input, Mode::Jsonc, *step)) {
+            told.say("DIFFERS: ");
+            told.show(step);
+            told.say(" bytes at a time, ");
+            told.show_line(&input);
         }
     }
-    Ok(())
 }
 
-/// Writes that pieces of the input make no difference, or which do.
-pub fn answer_pieces(alloc: Global, input: &[u8], told: &mut String) -> Result<(), AllocError> {
+/// Whether scans in this mode do.
+fn tells(alloc: Global, input: &[u8], mode: Mode, step: usize) -> bool {
+    Trial::Scan(Scan { input, mode, step }).tells(alloc)
+}
+
+/// Tells that pieces of the input make no difference, or which do.
+pub fn answer_pieces(alloc: Global, input: &[u8], told: &mut Told) {
     let before = told.len();
-    write_other_pieces(input, told)?;
-    write_other_scans(alloc, input, told)?;
+    write_other_pieces(input, told);
+    write_other_scans(alloc, input, told);
     if told.len() == before {
-        told.push_str("as the whole\n")?;
+        told.line("as the whole");
     }
-    Ok(())
 }
 
-/// Whether scans in pieces of `step` bytes find what is cut of the whole input, and tell of each read that fails.
-fn agrees(alloc: Global, input: &[u8], mode: Mode, step: usize) -> bool {
-    for at in 0..MANY_CALLS {
-        match scan(alloc, input, mode, step, at) {
-            Ended::Told => {}
-            Ended::Answered => return true,
-            Ended::Wrong => return false,
-        }
-    }
-    false
-}
-
-/// A scan in pieces of `step` bytes, where the read of this number fails.
-fn scan(alloc: Global, input: &[u8], mode: Mode, step: usize, fails_at: usize) -> Ended {
+/// The scan where the read of this number fails.
+pub fn with_failed_scan(alloc: Global, scan: Scan<'_>, at: usize) -> Ended {
+    let Scan { input, mode, step } = scan;
     if step == 0 {
         return Ended::Wrong;
     }
-    let mut reader = FaultyReader::new(input, fails_at, ErrorKind::BrokenPipe);
+    let mut reader = FaultyReader::new(input, at, ErrorKind::BrokenPipe);
     let scan = scan_of(alloc, &mut reader, step, mode);
     let is_asked_well = reader.longest() <= step.min(LONGEST_PIECE);
     Ended::of(

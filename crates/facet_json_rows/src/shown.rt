@@ -1,10 +1,10 @@
 //! Answers of a parser as texts, so that all that is told of an input is one line.
 
-use facet_format::{ParseError, ParseEvent, ParseEventKind, ScalarValue, Span};
+use crate::told::Told;
+use facet_format::{ParseError, ParseEvent, ParseEventKind, Span};
 use facet_json::Answer;
-use std::alloc::{AllocError, Global};
+use std::alloc::Global;
 use std::collections::VecDeque;
-use std::fmt::Debug;
 
 /// What is told of what is seen.
 #[derive(Clone, Copy)]
@@ -16,20 +16,32 @@ pub enum Telling {
 }
 
 /// Appends a text after those that are told.
-pub fn push(told: &mut String, text: &str, telling: Telling) -> Result<(), AllocError> {
-    if matches!(telling, Telling::New) && told.as_str().ends_with(text) {
-        return Ok(());
+pub fn push(told: &mut Told, text: &str, telling: Telling) {
+    if !(matches!(telling, Telling::New) && told.as_str().ends_with(text)) {
+        separate(told);
+        told.say(text);
     }
-    separate(told)?;
-    told.push_str(text)
 }
 
 /// Separates what is told from what comes next.
-pub fn separate(told: &mut String) -> Result<(), AllocError> {
-    if told.is_empty() {
-        return Ok(());
+pub fn separate(told: &mut Told) {
+    if told.len() > 0 {
+        told.say("; ");
     }
-    told.push_str("; ")
+}
+
+/// Appends an answer; of several events one after the other, and then their number or the refusal after them.
+/// Where only what is new is told, their number is told where it isn't right.
+pub fn push_answer(alloc: Global, answer: &Answer<'_>, telling: Telling, told: &mut Told) {
+    if let Answer::Events(events, answered) = answer {
+        push_events(alloc, events, telling, told);
+        if matches!(telling, Telling::New) && *answered == Ok(events.len()) {
+            return;
+        }
+    }
+    let mut text = Told::new(alloc);
+    write_answer(answer, &mut text);
+    push(told, text.as_str(), telling);
 }
 
 /// Appends events, one after the other.
@@ -37,105 +49,70 @@ fn push_events(
     alloc: Global,
     events: &VecDeque<ParseEvent<'_>>,
     telling: Telling,
-    told: &mut String,
-) -> Result<(), AllocError> {
+    told: &mut Told,
+) {
     for event in events {
-        push_event(alloc, event, telling, told)?;
+        let mut text = Told::new(alloc);
+        write_event(event, &mut text);
+        push(told, text.as_str(), telling);
     }
-    Ok(())
-}
-
-/// Appends an answer; of several events one after the other, and then their number or the refusal after them.
-/// Where only what is new is told, their number is told where it isn't right.
-pub fn push_answer(
-    alloc: Global,
-    answer: &Answer<'_>,
-    telling: Telling,
-    told: &mut String,
-) -> Result<(), AllocError> {
-    if let Answer::Events(events, answered) = answer {
-        push_events(alloc, events, telling, told)?;
-        if matches!(telling, Telling::New) && *answered == Ok(events.len()) {
-            return Ok(());
-        }
-    }
-    let mut text = String::new(alloc);
-    write_answer(answer, &mut text)?;
-    push(told, text.as_str(), telling)
 }
 
 /// Writes an answer; of several events their number, or the refusal after them.
-fn write_answer(answer: &Answer<'_>, text: &mut String) -> Result<(), AllocError> {
+fn write_answer(answer: &Answer<'_>, text: &mut Told) {
     match answer {
         Answer::Event(Ok(Some(event))) => write_event(event, text),
-        Answer::Event(Ok(None)) => text.push_str("None"),
-        Answer::Events(_, Ok(count)) => write_shown("events", count, text),
-        Answer::Skipped(Ok(())) => text.push_str("skipped"),
-        Answer::Raw(Ok(Some(raw))) => write_shown("raw", raw, text),
-        Answer::Raw(Ok(None)) => text.push_str("no raw text"),
-        Answer::Saved(Ok(point)) => write_shown("point", &point.0, text),
+        Answer::Event(Ok(None)) => text.say("None"),
+        Answer::Events(_, Ok(count)) => {
+            text.say("events ");
+            text.show(count);
+        }
+        Answer::Skipped(Ok(())) => text.say("skipped"),
+        Answer::Raw(Ok(Some(raw))) => {
+            text.say("raw ");
+            text.show(raw);
+        }
+        Answer::Raw(Ok(None)) => text.say("no raw text"),
+        Answer::Saved(Ok(point)) => {
+            text.say("point ");
+            text.show(&point.0);
+        }
         Answer::Event(Err(error)) | Answer::Events(_, Err(error)) | Answer::Saved(Err(error)) => {
-            write_error(error, text)
+            write_error(error, text);
         }
         Answer::Skipped(Err(error)) | Answer::Raw(Err(error)) => write_error(error, text),
-        Answer::Restored => text.push_str("restored"),
-        Answer::Span(Some(span)) => write_span("span", *span, text),
-        Answer::Span(None) => text.push_str("no span"),
+        Answer::Restored => text.say("restored"),
+        Answer::Span(Some(span)) => write_span("span ", *span, text),
+        Answer::Span(None) => text.say("no span"),
     }
-}
-
-/// Writes a value behind what it is called.
-fn write_shown<T: Debug>(name: &str, value: &T, text: &mut String) -> Result<(), AllocError> {
-    write!(text, "{name} {value:?}")
 }
 
 /// Writes a span behind what it is of.
-fn write_span(name: &str, span: Span, text: &mut String) -> Result<(), AllocError> {
-    write!(text, "{name} {}+{}", span.offset, span.len)
-}
-
-/// Appends an event.
-fn push_event(
-    alloc: Global,
-    event: &ParseEvent<'_>,
-    telling: Telling,
-    told: &mut String,
-) -> Result<(), AllocError> {
-    let mut text = String::new(alloc);
-    write_event(event, &mut text)?;
-    push(told, text.as_str(), telling)
+fn write_span(name: &str, span: Span, text: &mut Told) {
+    text.say(name);
+    text.span(span);
 }
 
 /// Writes an event and its span.
-fn write_event(event: &ParseEvent<'_>, text: &mut String) -> Result<(), AllocError> {
-    write_kind(&event.kind, text)?;
-    write_span("", event.span, text)
-}
-
-/// Writes what the event is.
-fn write_kind(kind: &ParseEventKind<'_>, text: &mut String) -> Result<(), AllocError> {
-    match kind {
-        ParseEventKind::StructStart(_) => text.push_str("{"),
-        ParseEventKind::StructEnd => text.push_str("}"),
-        ParseEventKind::SequenceStart(_) => text.push_str("["),
-        ParseEventKind::SequenceEnd => text.push_str("]"),
-        ParseEventKind::FieldKey(key) => write_key(key.name.as_str(), text),
-        ParseEventKind::Scalar(value) => write_scalar(value, text),
+fn write_event(event: &ParseEvent<'_>, text: &mut Told) {
+    match &event.kind {
+        ParseEventKind::StructStart(_) => text.say("{"),
+        ParseEventKind::StructEnd => text.say("}"),
+        ParseEventKind::SequenceStart(_) => text.say("["),
+        ParseEventKind::SequenceEnd => text.say("]"),
+        ParseEventKind::FieldKey(key) => {
+            text.say("key(");
+            text.show(&key.name.as_str());
+            text.say(")");
+        }
+        ParseEventKind::Scalar(value) => text.show(value),
     }
-}
-
-/// Writes a key.
-fn write_key(name: &str, text: &mut String) -> Result<(), AllocError> {
-    write!(text, "key({name:?})")
-}
-
-/// Writes a scalar.
-fn write_scalar(value: &ScalarValue<'_>, text: &mut String) -> Result<(), AllocError> {
-    write!(text, "{value:?}")
+    write_span(" ", event.span, text);
 }
 
 /// Writes a refusal.
-pub fn write_error(error: &ParseError<'_>, text: &mut String) -> Result<(), AllocError> {
-    write_shown("refused", &error.kind, text)?;
-    write_span("", error.span, text)
+pub fn write_error(error: &ParseError<'_>, text: &mut Told) {
+    text.say("refused ");
+    text.show(&error.kind);
+    write_span(" ", error.span, text);
 }

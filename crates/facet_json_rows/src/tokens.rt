@@ -2,50 +2,54 @@
 
 use crate::pieces::write_other_pieces;
 use crate::row::first_word;
+use crate::told::Told;
 use facet_json::scanner::{Mode, ScanError, ScanResult, Scanner, Token, cut};
-use std::alloc::AllocError;
 
-/// Writes a refusal: the kind, the offset of its bytes and their number.
-pub fn write_refusal(error: &ScanError, told: &mut String) -> Result<(), AllocError> {
-    let span = error.span;
-    writeln!(told, "{:?} {}+{}", error.kind, span.offset, span.len)
+/// Tells a refusal: the kind, the offset of its bytes and their number.
+pub fn write_refusal(error: &ScanError, told: &mut Told) {
+    told.show(&error.kind);
+    told.say(" ");
+    told.span(error.span);
+    told.say("\n");
 }
 
-/// Writes a token, the offset of its bytes and their number, or the refusal.
-fn write_scanned(scanned: &ScanResult, told: &mut String) -> Result<(), AllocError> {
+/// Tells a token, the offset of its bytes and their number, or the refusal.
+fn write_scanned(scanned: &ScanResult, told: &mut Told) {
     match scanned {
         Ok(found) => {
-            let span = found.span;
-            writeln!(told, "{:?} {}+{}", found.token, span.offset, span.len)
+            told.show(&found.token);
+            told.say(" ");
+            told.span(found.span);
+            told.say("\n");
         }
         Err(error) => write_refusal(error, told),
     }
 }
 
-/// Writes the tokens of the input in the mode of this name.
-pub fn answer_tokens(word: &str, input: &[u8], told: &mut String) -> Result<(), AllocError> {
+/// Tells the tokens of the input in the mode of this name.
+pub fn answer_tokens(word: &str, input: &[u8], told: &mut Told) {
     match word {
         "plain" => write_tokens(Mode::Plain, input, told),
         "jsonc" => write_tokens(Mode::Jsonc, input, told),
-        _ => told.push_str("NO MODE\n"),
+        _ => told.line("NO MODE"),
     }
 }
 
-/// Writes each token of the input, and then its end or the refusal; and where scanners find others.
-fn write_tokens(mode: Mode, input: &[u8], told: &mut String) -> Result<(), AllocError> {
+/// Tells each token of the input, and then its end or the refusal; and where scanners find others.
+fn write_tokens(mode: Mode, input: &[u8], told: &mut Told) {
     let mut position = 0;
     for _ in 0..=input.len() {
         if position > input.len() {
             break;
         }
         let scanned = cut(input, position, mode);
-        write_scanned(&scanned, told)?;
+        write_scanned(&scanned, told);
         match passed(&scanned) {
             Some(end) => position = end,
             None => return write_other_pieces(input, told),
         }
     }
-    told.push_str("DIFFERS: tokens after the input\n")
+    told.line("DIFFERS: tokens after the input");
 }
 
 /// Where the token ends; nothing of the end and of a refusal.
@@ -66,39 +70,31 @@ fn made(words: &str) -> Option<Scanner> {
     }
 }
 
-/// Writes what a scanner answers to the calls, which `|` parts, and where it stands after each.
-pub fn answer_scanner(words: &str, calls: &str, told: &mut String) -> Result<(), AllocError> {
+/// Tells what a scanner answers to the calls, which `|` parts, and where it stands after each.
+pub fn answer_scanner(words: &str, calls: &str, told: &mut Told) {
     match made(words) {
         Some(mut scanner) => write_calls(&mut scanner, calls, told),
-        None => told.push_str("NO SCANNER\n"),
+        None => told.line("NO SCANNER"),
     }
 }
 
-fn write_calls(scanner: &mut Scanner, calls: &str, told: &mut String) -> Result<(), AllocError> {
+fn write_calls(scanner: &mut Scanner, calls: &str, told: &mut Told) {
     for call in calls.split('|') {
         let (name, buffer) = first_word(call);
-        write_call(scanner, name, buffer, told)?;
-        writeln!(told, "at {}", scanner.pos())?;
+        write_call(scanner, name, buffer, told);
+        told.say("at ");
+        told.show_line(&scanner.pos());
     }
-    Ok(())
 }
 
-/// Writes what the scanner answers: `next BUFFER` or `last BUFFER`. After `to N` it goes on there, and `show` shows it.
-fn write_call(
-    scanner: &mut Scanner,
-    name: &str,
-    buffer: &str,
-    told: &mut String,
-) -> Result<(), AllocError> {
+/// Tells what the scanner answers: `next BUFFER` or `last BUFFER`. After `to N` it goes on there, and `show` shows it.
+fn write_call(scanner: &mut Scanner, name: &str, buffer: &str, told: &mut Told) {
     match (name, buffer.parse()) {
-        ("show", _) => writeln!(told, "{scanner:?}"),
-        ("to", Ok(position)) => {
-            scanner.set_pos(position);
-            Ok(())
-        }
+        ("show", _) => told.show_line(scanner),
+        ("to", Ok(position)) => scanner.set_pos(position),
         _ => match called(scanner, name, buffer.as_bytes()) {
             Some(scanned) => write_scanned(&scanned, told),
-            None => told.push_str("NO CALL\n"),
+            None => told.line("NO CALL"),
         },
     }
 }

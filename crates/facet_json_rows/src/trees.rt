@@ -1,11 +1,12 @@
 //! Trees that are equal, and trees as text.
 
-use crate::row::{first_word, write_lines};
+use crate::row::first_word;
+use crate::told::Told;
 use facet_json::{
     OwnedDecimal, SerializeOptions, Tree, to_string, to_string_pretty, to_string_with_options,
     to_vec, to_vec_pretty, to_vec_with_options, tree_from_slice,
 };
-use std::alloc::{AllocError, Global};
+use std::alloc::Global;
 
 /// The tree of the text, or the leaf that its first word names; `some` is a list of such leaves, and `empty` one of empty containers.
 fn tree_of(alloc: Global, text: &str) -> Option<Tree> {
@@ -35,10 +36,18 @@ fn leaf_of(alloc: Global, text: &str) -> Option<Tree> {
 /// The numbers between the blanks, each a byte.
 fn bytes_of(alloc: Global, numbers: &str) -> Option<Vec<u8>> {
     let mut bytes = Vec::new(alloc);
+    match push_bytes(numbers, &mut bytes) {
+        Some(()) => Some(bytes),
+        None => None,
+    }
+}
+
+/// Appends the numbers between the blanks.
+fn push_bytes(numbers: &str, bytes: &mut Vec<u8>) -> Option<()> {
     for number in numbers.split(' ') {
         bytes.push(number.parse().ok()?).ok()?;
     }
-    Some(bytes)
+    Some(())
 }
 
 /// Leaves that no document is read to.
@@ -57,10 +66,25 @@ static EMPTY: [&str; 3] = ["[]", "{}", "bytes 0 127"];
 /// A list of the trees of these texts.
 fn list_of(alloc: Global, texts: &[&str]) -> Option<Tree> {
     let mut items = Vec::new(alloc);
-    for text in texts {
-        items.push(leaf_of(alloc, text)?).ok()?;
+    if are_pushed(alloc, texts, &mut items) {
+        Some(Tree::List(items))
+    } else {
+        None
     }
-    Some(Tree::List(items))
+}
+
+/// Appends the trees of these texts, and answers whether there are such.
+fn are_pushed(alloc: Global, texts: &[&str], items: &mut Vec<Tree>) -> bool {
+    for text in texts {
+        let is_pushed = match leaf_of(alloc, text) {
+            Some(leaf) => items.push(leaf).is_ok(),
+            None => false,
+        };
+        if !is_pushed {
+            return false;
+        }
+    }
+    true
 }
 
 /// The decimal of this text.
@@ -68,22 +92,12 @@ fn decimal_of(alloc: Global, text: &str) -> Option<OwnedDecimal> {
     OwnedDecimal::from_string(String::from_str(alloc, text).ok()?).ok()
 }
 
-/// Whether the tree and that of the text are equal, unless there is none.
-fn equals(alloc: Global, tree: &Tree, text: &str) -> Option<bool> {
-    Some(*tree == tree_of(alloc, text)?)
-}
-
-/// Whether the trees of two texts are equal, unless there are none.
-fn are_equal(alloc: Global, a: &str, b: &str) -> Option<bool> {
-    equals(alloc, &tree_of(alloc, a)?, b)
-}
-
-/// Writes whether the trees of the texts before and after the `|` are equal.
-pub fn answer_equal(alloc: Global, input: &str, told: &mut String) -> Result<(), AllocError> {
+/// Tells whether the trees of the texts before and after the `|` are equal.
+pub fn answer_equal(alloc: Global, input: &str, told: &mut Told) {
     let (a, b) = input.split_once('|').unwrap_or((input, ""));
-    match are_equal(alloc, a, b) {
-        Some(equal) => writeln!(told, "{equal}"),
-        None => told.push_str("NO TREE\n"),
+    match (tree_of(alloc, a), tree_of(alloc, b)) {
+        (Some(a), Some(b)) => told.show_line(&(a == b)),
+        _ => told.line("NO TREE"),
     }
 }
 
@@ -97,43 +111,45 @@ fn options(word: &str) -> SerializeOptions<'static> {
 
 /// The bytes that are written of the tree, in the layout that the word names.
 fn bytes_written(alloc: Global, tree: &Tree, word: &str) -> Option<Vec<u8>> {
-    match word {
-        "" => to_vec(alloc, tree).ok(),
-        "pretty" => to_vec_pretty(alloc, tree).ok(),
-        other => to_vec_with_options(alloc, tree, &options(other)).ok(),
-    }
+    let written = match word {
+        "" => to_vec(alloc, tree),
+        "pretty" => to_vec_pretty(alloc, tree),
+        other => to_vec_with_options(alloc, tree, &options(other)),
+    };
+    written.ok()
 }
 
 /// The text that is written of the tree, in the layout that the word names.
 fn text_written(alloc: Global, tree: &Tree, word: &str) -> Option<String> {
-    match word {
-        "" => to_string(alloc, tree).ok(),
-        "pretty" => to_string_pretty(alloc, tree).ok(),
-        other => to_string_with_options(alloc, tree, &options(other)).ok(),
+    let written = match word {
+        "" => to_string(alloc, tree),
+        "pretty" => to_string_pretty(alloc, tree),
+        other => to_string_with_options(alloc, tree, &options(other)),
+    };
+    written.ok()
+}
+
+/// Tells the text of the text's tree, in the layout that the word names; none where bytes and text differ.
+pub fn answer_write(alloc: Global, word: &str, input: &str, told: &mut Told) {
+    match tree_of(alloc, input) {
+        Some(tree) => write_tree(alloc, &tree, word, told),
+        None => told.line("NO TREE"),
     }
 }
 
-/// The text that is written of the text's tree, unless there is none; none too where bytes and text differ.
-fn text_of(alloc: Global, text: &str, word: &str) -> Option<String> {
-    let tree = tree_of(alloc, text)?;
-    let bytes = bytes_written(alloc, &tree, word)?;
-    let written = text_written(alloc, &tree, word)?;
-    if written.as_bytes() == bytes.as_slice() {
-        Some(written)
-    } else {
-        None
+fn write_tree(alloc: Global, tree: &Tree, word: &str, told: &mut Told) {
+    match &text_written(alloc, tree, word) {
+        Some(text) if are_written(alloc, tree, word, text.as_bytes()) => {
+            told.lines(text.as_bytes());
+        }
+        _ => told.line("NO TREE"),
     }
 }
 
-/// Writes the text of the text's tree, in the layout that the word names.
-pub fn answer_write(
-    alloc: Global,
-    word: &str,
-    input: &str,
-    told: &mut String,
-) -> Result<(), AllocError> {
-    match text_of(alloc, input, word) {
-        Some(text) => write_lines(text.as_bytes(), told),
-        None => told.push_str("NO TREE\n"),
+/// Whether these are the bytes that are written of the tree, in the layout that the word names.
+fn are_written(alloc: Global, tree: &Tree, word: &str, text: &[u8]) -> bool {
+    match bytes_written(alloc, tree, word) {
+        Some(bytes) => bytes.as_slice() == text,
+        None => false,
     }
 }

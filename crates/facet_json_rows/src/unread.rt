@@ -1,9 +1,9 @@
 //! Skips and captures at each place of an input.
 
 use crate::shown::{Telling, push, separate, write_error};
+use crate::told::Told;
 use facet_format::{FormatParser, ParseError, Span};
 use facet_json::JsonParser;
-use std::alloc::AllocError;
 
 /// A call that passes what comes, its text unread.
 #[derive(Clone, Copy)]
@@ -30,15 +30,15 @@ pub fn tell_parts(
     call: Unread,
     is_peeked: bool,
     len: usize,
-    told: &mut String,
-) -> Result<(), AllocError> {
+    told: &mut Told,
+) {
     for _ in 0..=len {
-        tell_part(call, is_peeked, parser, len, told)?;
+        tell_part(call, is_peeked, parser, len, told);
         if !matches!(next_span(parser), Ok(Some(_))) {
-            return Ok(());
+            return;
         }
     }
-    push(told, "no end", Telling::All)
+    push(told, "no end", Telling::All);
 }
 
 /// What the call does where the parser stands, which stands there afterwards.
@@ -47,47 +47,33 @@ fn tell_part(
     is_peeked: bool,
     parser: &mut JsonParser<'_>,
     len: usize,
-    told: &mut String,
-) -> Result<(), AllocError> {
+    told: &mut Told,
+) {
     let Ok(point) = parser.save() else {
         return push(told, "no point", Telling::All);
     };
     if is_peeked {
         let _ = parser.peek_event();
     }
-    tell_call(call, parser, told)?;
+    tell_call(call, parser, told);
     if !is_within(parser, len) {
-        push(told, "outside", Telling::All)?;
+        push(told, "outside", Telling::All);
     }
     parser.restore(point);
-    Ok(())
 }
 
-/// What the call does.
-fn tell_call(
-    call: Unread,
-    parser: &mut JsonParser<'_>,
-    told: &mut String,
-) -> Result<(), AllocError> {
-    separate(told)?;
+/// What the call does, and where its refusal does not repeat.
+fn tell_call(call: Unread, parser: &mut JsonParser<'_>, told: &mut Told) {
+    separate(told);
     match passed_by(parser, call) {
         Ok(passed) => write_passed(passed, told),
-        Err(error) => tell_refusal(call, parser, &error, told),
+        Err(error) => {
+            write_error(&error, told);
+            if !is_refused_again(parser, call, error) {
+                push(told, "not again", Telling::All);
+            }
+        }
     }
-}
-
-/// That the call is refused so, and where this does not repeat.
-fn tell_refusal(
-    call: Unread,
-    parser: &mut JsonParser<'_>,
-    error: &ParseError<'static>,
-    told: &mut String,
-) -> Result<(), AllocError> {
-    write_error(error, told)?;
-    if is_refused_again(parser, call, error) {
-        return Ok(());
-    }
-    push(told, "not again", Telling::All)
 }
 
 /// Whether the last token, and a refusal that comes next, are of the first so many bytes.
@@ -104,20 +90,21 @@ fn is_within(parser: &mut JsonParser<'_>, len: usize) -> bool {
 fn is_refused_again(
     parser: &mut JsonParser<'_>,
     call: Unread,
-    refusal: &ParseError<'static>,
+    refusal: ParseError<'static>,
 ) -> bool {
     let again = passed_by(parser, call);
     match (again, next_span(parser)) {
-        (Err(again), Err(error)) => again == *refusal && error == *refusal,
+        (Err(again), Err(error)) => again == refusal && error == refusal,
         _ => false,
     }
 }
 
 /// The next event's span, or the refusal.
 pub fn next_span(parser: &mut JsonParser<'_>) -> Result<Option<Span>, ParseError<'static>> {
-    match parser.next_event()? {
-        Some(event) => Ok(Some(event.span)),
-        None => Ok(None),
+    match parser.next_event() {
+        Ok(Some(event)) => Ok(Some(event.span)),
+        Ok(None) => Ok(None),
+        Err(error) => Err(error),
     }
 }
 
@@ -152,10 +139,13 @@ fn captured(parser: &mut JsonParser<'_>) -> Result<Passed, ParseError<'static>> 
 }
 
 /// Writes what is passed.
-pub fn write_passed(passed: Passed, told: &mut String) -> Result<(), AllocError> {
+pub fn write_passed(passed: Passed, told: &mut Told) {
     match passed {
-        Passed::Token(span) => write!(told, "{}+{}", span.offset, span.len),
-        Passed::Bytes(count) => write!(told, "{count} bytes"),
-        Passed::Nothing(words) => told.push_str(words),
+        Passed::Token(span) => told.span(span),
+        Passed::Bytes(count) => {
+            told.show(&count);
+            told.say(" bytes");
+        }
+        Passed::Nothing(words) => told.say(words),
     }
 }
