@@ -2,9 +2,9 @@
 //! memory, which is refused, and it has to pass in every such run. Each text is tried twice: as one request is refused in a run, memory runs out
 //! in one of the two at most, and the other gives the whole answer.
 
-use crate::again::rewritten;
-use crate::enums::{Adjacent, Command};
-use crate::structs::Account;
+use crate::forms::again::rewritten;
+use crate::forms::enums::{Adjacent, Command};
+use crate::forms::structs::Account;
 use facet_json_serde::{DeserializeErrorKind, Error, ErrorKind};
 use serde::{Deserialize, Serialize};
 use std::alloc::Global;

@@ -4,25 +4,11 @@
 #![tactic(auto)]
 
 #[cfg(test)]
-mod again;
-#[cfg(test)]
 mod allocations;
 #[cfg(test)]
 mod by_hand;
-#[cfg(test)]
-mod entries;
-#[cfg(test)]
-mod enums;
-#[cfg(test)]
-mod exchanged;
 mod figures;
 #[cfg(test)]
-mod held;
+mod forms;
 #[cfg(test)]
-mod plain;
-#[cfg(test)]
-mod streams;
-#[cfg(test)]
-mod structs;
-#[cfg(test)]
-mod writers;
+mod ways;

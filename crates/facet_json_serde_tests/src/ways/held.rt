@@ -1,8 +1,8 @@
 //! A parser and a writer that the caller holds.
 
-use crate::again::{are_bytes, expect_text, said, written};
 use crate::by_hand::read_figure;
 use crate::figures::Figure;
+use crate::forms::again::{are_bytes, expect_text, said, written};
 use facet_json_serde::{Error, Json, JsonParser, JsonWriter, ReadFault, SerializeOptions};
 use serde::Serialize;
 use std::alloc::Global;
@@ -37,16 +37,23 @@ fn takes<T: Serialize>(writer: &mut JsonWriter<'_>, value: &T) -> bool {
     value.serialize(writer).is_ok()
 }
 
+/// Whether a writer takes a pair, and gives out its text.
+fn is_written(alloc: Global, options: SerializeOptions<'_>) -> bool {
+    let mut writer = JsonWriter::new(alloc, options);
+    takes(&mut writer, &(1u8, "x")) & are_bytes(writer.finish(&options), br#"[1,"x"]"#)
+}
+
+/// Whether a writer takes a pair and no value after it, and then gives out nothing.
+fn is_one_value(alloc: Global, options: SerializeOptions<'_>) -> bool {
+    let mut writer = JsonWriter::new(alloc, options);
+    takes(&mut writer, &(1u8, "x")) & !takes(&mut writer, &7u8) & writer.finish(&options).is_err()
+}
+
 #[test]
 fn a_writer_is_held(rt: HostRuntime) {
     let options = SerializeOptions::new().bytes_as_hex();
-    let mut writer = JsonWriter::new(rt.alloc(), options);
-    assert!(rt; takes(&mut writer, &(1u8, "x")));
-    assert!(rt; are_bytes(writer.finish(&options), br#"[1,"x"]"#));
-    let mut writer = JsonWriter::new(rt.alloc(), options);
-    assert!(rt; takes(&mut writer, &(1u8, "x")));
-    assert!(rt; !takes(&mut writer, &7u8));
-    assert!(rt; writer.finish(&options).is_err());
+    assert!(rt; is_written(rt.alloc(), options));
+    assert!(rt; is_one_value(rt.alloc(), options));
 }
 
 /// A part of a hundred, or the two numbers of a range, the lower one first.

@@ -1,10 +1,11 @@
 //! The entry functions: with comments, strict, of a whole input, from bytes, from a reader and to a writer.
 
-use crate::again::{are_bytes, expect_text, told, written};
+use crate::forms::again::{are_bytes, expect_text, told, written};
 use facet_json_serde::{
     from_reader, from_slice, from_slice_strict, from_slice_whole, from_str_jsonc, from_str_strict,
     to_vec, to_writer,
 };
+use std::alloc::Global;
 use std::test::Fail;
 
 #[test]
@@ -23,13 +24,18 @@ fn languages_are_told_apart(rt: HostRuntime) -> Result<(), Fail> {
     expect_text(&rt, told(alloc, read, "7 x y"), refused)
 }
 
+/// Whether the numbers are written so to a writer.
+fn are_streamed(alloc: Global, numbers: &Vec<u16>, text: &[u8]) -> bool {
+    let mut output = Vec::new(alloc);
+    let answer = to_writer(alloc, &mut output, numbers);
+    answer.is_ok() & (output.as_slice() == text)
+}
+
 #[test]
 fn streams_are_read_and_written(rt: HostRuntime) -> Result<(), Fail> {
     let (alloc, mut input) = (rt.alloc(), b"[1, 2, 3]".as_slice());
     let numbers: Vec<u16> = from_reader(alloc, &mut input)?;
-    let mut output = Vec::new(alloc);
-    to_writer(alloc, &mut output, &numbers)?;
-    assert!(rt; output.as_slice() == b"[1,2,3]".as_slice());
-    assert!(rt; are_bytes(to_vec(alloc, &numbers), b"[1,2,3]"));
+    let text = b"[1,2,3]";
+    assert!(rt; are_streamed(alloc, &numbers, text) & are_bytes(to_vec(alloc, &numbers), text));
     Ok(())
 }

@@ -49,30 +49,49 @@ fn is_value<E: Drop>(read: Result<Value, E>, value: &Value) -> bool {
     }
 }
 
-/// Whether this library reads the text as that value too, and each reads so what the other one writes of it.
-fn is_shared(alloc: Global, text: &str, value: &Value) -> Result<bool, Fail> {
-    let ours = facet_json_serde::to_string(alloc, value)?;
-    let theirs = serde_json::to_string(alloc, value)?;
-    Ok(
-        is_value(facet_json_serde::from_str(alloc, text), value)
-            & is_value(facet_json_serde::from_str(alloc, theirs.as_str()), value)
-            & is_value(serde_json::from_str(alloc, ours.as_str()), value),
-    )
+/// Whether this library reads the text as that value.
+fn is_read_here<E: Drop>(alloc: Global, text: Result<String, E>, value: &Value) -> bool {
+    match text {
+        Ok(text) => is_value(facet_json_serde::from_str(alloc, text.as_str()), value),
+        Err(_) => false,
+    }
 }
 
-/// Fails where the two do not read the text as one value, or each what the other one writes of it.
-fn exchange(rt: &impl Abort, alloc: Global, text: &str) -> Result<(), Fail> {
-    let value: Value = serde_json::from_str(alloc, text)?;
-    assert!(rt; is_shared(alloc, text, &value)?, "{text}");
+/// Whether the toolchain's `serde_json` reads the text as that value.
+fn is_read_there<E: Drop>(alloc: Global, text: Result<String, E>, value: &Value) -> bool {
+    match text {
+        Ok(text) => is_value(serde_json::from_str(alloc, text.as_str()), value),
+        Err(_) => false,
+    }
+}
+
+/// Whether this library reads the text as that value too, and each reads so what the other one writes of it.
+fn is_shared(alloc: Global, text: &str, value: &Value) -> bool {
+    is_value(facet_json_serde::from_str(alloc, text), value)
+        & is_read_here(alloc, serde_json::to_string(alloc, value), value)
+        & is_read_there(alloc, facet_json_serde::to_string(alloc, value), value)
+}
+
+/// Whether the two read the text as one value, and each what the other one writes of it.
+fn is_exchanged(alloc: Global, text: &str) -> bool {
+    match serde_json::from_str(alloc, text) {
+        Ok(value) => is_shared(alloc, text, &value),
+        Err(_) => false,
+    }
+}
+
+/// Fails where the next text is not exchanged.
+fn exchange(rt: &impl Abort, alloc: Global, seed: &mut u64) -> Result<(), Fail> {
+    let text = sample(alloc, seed)?;
+    assert!(rt; is_exchanged(alloc, text.as_str()), "{text}");
     Ok(())
 }
 
 #[test]
 fn values_are_exchanged(rt: HostRuntime) -> Result<(), Fail> {
-    let alloc = rt.alloc();
     let mut seed = 1;
     for _ in 0..300 {
-        exchange(&rt, alloc, sample(alloc, &mut seed)?.as_str())?;
+        exchange(&rt, rt.alloc(), &mut seed)?;
     }
     Ok(())
 }

@@ -1,6 +1,6 @@
 //! Numbers, texts, tuples, maps, and the structs that are no maps.
 
-use crate::again::{Case, expect};
+use crate::forms::again::{Case, expect};
 use serde::{Deserialize, Serialize};
 use std::collections::BTreeMap;
 use std::test::Fail;

@@ -1,6 +1,6 @@
 //! Writers by hand: what is not one value is refused, and nothing is given out.
 
-use crate::again::{expect_text, said};
+use crate::forms::again::{expect_text, said};
 use facet_json_serde::{SerializeOptions, to_string, to_string_pretty, to_string_with_options};
 use serde::{Described, Serialize, Serializer};
 use std::test::Fail;

@@ -1,6 +1,6 @@
 //! Structs: renamed fields, borrowed texts, what is left out, flattened and recursive ones.
 
-use crate::again::{Case, expect};
+use crate::forms::again::{Case, expect};
 use serde::{Deserialize, Serialize};
 use std::alloc::{AllocError, Global};
 use std::borrow::CowStr;
@@ -46,10 +46,10 @@ struct Inner {
 #[derive(Drop, Serialize, Deserialize)]
 #[serde(recursive)]
 #[cycle(folder)]
-struct Folder {
-    name: String,
+struct Folder<'a> {
+    name: &'a str,
     #[serde(recursive)]
-    folders: Vec<Folder>,
+    folders: Vec<Folder<'a>>,
 }
 
 /// Renamed fields, a default, members in any order, unknown ones passed, and texts that are lent where they have no escape. A missing field is told
@@ -159,7 +159,7 @@ fn structs_are_read_and_written(rt: HostRuntime) -> Result<(), Fail> {
     expect::<Moon<'_>>(&rt, alloc, &MOONS)?;
     expect::<Account>(&rt, alloc, &ACCOUNTS)?;
     expect::<Outer>(&rt, alloc, &OUTERS)?;
-    expect::<Folder>(&rt, alloc, &FOLDERS)?;
+    expect::<Folder<'_>>(&rt, alloc, &FOLDERS)?;
     let input = nested(alloc, 100_000)?;
     let written = r#"{"name":"Io","longNote":"a","orbitDays":0.0}"#;
     expect::<Moon<'_>>(&rt, alloc, &[(input.as_str(), written)])

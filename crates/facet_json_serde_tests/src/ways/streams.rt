@@ -1,6 +1,6 @@
 //! Readers and writers that give and take a few bytes at a time, and fail at each call in turn.
 
-use crate::again::are_bytes;
+use crate::forms::again::are_bytes;
 use facet_json_serde::{StreamError, from_reader, to_writer};
 use std::alloc::Global;
 use std::io;
@@ -8,6 +8,17 @@ use std::io::{ErrorKind, Read, Write};
 
 /// The text that is read and written, three bytes at a time.
 const TEXT: &str = "[1,20,3]";
+
+/// Counts a call, and fails where it is the one of this number.
+fn count(calls: &mut usize, fails_at: usize) -> io::Result<()> {
+    let at = *calls;
+    *calls = at.saturating_add(1);
+    if at == fails_at {
+        Err(io::Error::from(ErrorKind::TimedOut))
+    } else {
+        Ok(())
+    }
+}
 
 /// What is left to be read, and at which read, counted from 0, it fails.
 #[derive(Drop)]
@@ -19,11 +30,7 @@ struct Pieces {
 
 impl Read for Pieces {
     fn read(&mut self, buf: &mut [u8]) -> io::Result<usize> {
-        let at = self.reads;
-        self.reads = at.saturating_add(1);
-        if at == self.fails_at {
-            return Err(io::Error::from(ErrorKind::TimedOut));
-        }
+        count(&mut self.reads, self.fails_at)?;
         let n = self.left.len().min(buf.len()).min(3);
         let (now, later) = self.left.split_at(n);
         buf[..n].copy_from_slice(now);
@@ -42,11 +49,7 @@ struct Taken {
 
 impl Write for Taken {
     fn write(&mut self, buf: &[u8]) -> io::Result<usize> {
-        let at = self.writes;
-        self.writes = at.saturating_add(1);
-        if at == self.fails_at {
-            return Err(io::Error::from(ErrorKind::TimedOut));
-        }
+        count(&mut self.writes, self.fails_at)?;
         let n = buf.len().min(3);
         self.bytes.extend_from_slice(&buf[..n])?;
         Ok(n)
@@ -96,16 +99,23 @@ static WRITES: [(usize, Option<ErrorKind>, &str); 4] = [
     (3, None, TEXT),
 ];
 
+/// Whether the write that fails, if one is made, gives this error, after this text was taken.
+fn fails_so(alloc: Global, fails_at: usize, wanted: Option<ErrorKind>, text: &str) -> bool {
+    let mut taken = Taken {
+        bytes: Vec::new(alloc),
+        writes: 0,
+        fails_at,
+    };
+    let answer = to_writer(alloc, &mut taken, &(1u8, 20u8, 3u8));
+    (error(answer) == wanted) & (taken.bytes.as_slice() == text.as_bytes())
+}
+
 #[test]
 fn a_write_fails_in_turn(rt: HostRuntime) {
     for (fails_at, wanted, text) in &WRITES {
-        let mut taken = Taken {
-            bytes: Vec::new(rt.alloc()),
-            writes: 0,
-            fails_at: *fails_at,
-        };
-        let answer = to_writer(rt.alloc(), &mut taken, &(1u8, 20u8, 3u8));
-        let is_taken = taken.bytes.as_slice() == text.as_bytes();
-        assert!(rt; (error(answer) == *wanted) & is_taken, "at {fails_at}");
+        assert!(rt;
+            fails_so(rt.alloc(), *fails_at, *wanted, *text),
+            "at {fails_at}"
+        );
     }
 }

@@ -1,6 +1,6 @@
 //! The four forms of enum, and a broken text within each: it is told as the parser does, also after a rewind.
 
-use crate::again::{Case, expect};
+use crate::forms::again::{Case, expect};
 use serde::{Deserialize, Serialize};
 use std::test::Fail;
 
