@@ -77,7 +77,7 @@ impl<'a> Decimal<'a> {
         }
     }
 
-    /// The same for a text that is known to be a number with a fraction or an exponent. It is measured only where it doesn't begin
+    /// Makes a decimal of a text that is known to be a number with a fraction or an exponent. It is measured only where it doesn't begin
     /// and end with a digit.
     #[inline(always)]
     pub fn of_number(text: &'a str) -> Option<Decimal<'a>>
@@ -102,7 +102,7 @@ impl<'a> Decimal<'a> {
         self.0.as_str()
     }
 
-    /// The same text. A borrowed one stays borrowed, and an owned one is copied, which alone allocates.
+    /// Copies the decimal. A borrowed text stays borrowed, and an owned one is copied, which alone allocates.
     pub fn clone(&self, alloc: Global) -> Result<Decimal<'a>, AllocError>
         ensures { MatchResult result (λ d. d ≡ self.now) (λ _. is_owned self.now ≡ true) }
     {
@@ -110,7 +110,7 @@ impl<'a> Decimal<'a> {
         Ok(Decimal(text))
     }
 
-    /// The same text in memory of its own, or the value back where there is no memory for it: only a borrowed one takes any.
+    /// The decimal in memory of its own, or the value back where there is no memory for it: only a borrowed one takes any.
     pub fn into_owned(self, alloc: Global) -> Result<Decimal<'static>, Decimal<'a>>
         ensures { MatchResult result (λ d. d ≡ owned (bytes_of self.entry))
             (λ d. (d ≡ self.entry) × (is_owned self.entry ≡ false)) }

@@ -45,7 +45,7 @@ impl<'a> FieldKey<'a> {
         FieldKey { name, hint }
     }
 
-    /// The same name, copied where it is owned.
+    /// Copies the field, its name too where that is owned.
     fn copy(&self, alloc: Global) -> Result<FieldKey<'a>, AllocError>
         ensures { MatchResult result
             (λ copy. text_of copy.name ≡ text_of self.now.name)
@@ -87,7 +87,7 @@ pub enum ScalarValue<'a> {
 }
 
 impl<'a> ScalarValue<'a> {
-    /// The same value, copied where it holds an owned text.
+    /// Copies the value, its text too where that is owned.
     fn copy(&self, alloc: Global) -> Result<ScalarValue<'a>, AllocError>
         ensures { MatchResult result
             (λ copy. scalar_value_of copy ≡ scalar_value_of self.now)
@@ -127,7 +127,7 @@ pub enum ParseEventKind<'a> {
 }
 
 impl<'a> ParseEventKind<'a> {
-    /// The same kind, copied where it holds an owned text.
+    /// Copies the kind, its text too where that is owned.
     fn copy(&self, alloc: Global) -> Result<ParseEventKind<'a>, AllocError>
         ensures { MatchResult result
             (λ copy. event_kind_of copy ≡ event_kind_of self.now)
@@ -166,7 +166,7 @@ impl<'a> ParseEvent<'a> {
         ParseEvent { kind, span }
     }
 
-    /// The same event. A borrowed text stays borrowed, and an owned one is copied, which alone allocates.
+    /// Copies the event. A borrowed text stays borrowed, and an owned one is copied, which alone allocates.
     pub fn clone(&self, alloc: Global) -> Result<ParseEvent<'a>, AllocError>
         ensures { MatchResult result
             (λ copy. event_of copy ≡ event_of self.now)
@@ -183,7 +183,7 @@ impl<'a> ParseEvent<'a> {
 #[derive(Debug, Clone, Copy, PartialEq, Eq)]
 pub struct SavePoint(pub u64);
 
-/// The same text: a borrowed one stays borrowed, an owned one is copied.
+/// Copies a text: a borrowed one stays borrowed, an owned one is copied.
 pub(crate) fn copy_text<'a>(text: &CowStr<'a>, alloc: Global) -> Result<CowStr<'a>, AllocError>
     ensures { MatchResult result
         (λ copy. text_of copy ≡ text_of text.now)

@@ -62,7 +62,7 @@ pub trait FormatSerializer {
     fn serialize_byte_sequence(&mut self, bytes: &[u8]) -> Result<bool, Self::Error>
         ensures serves { IsServedOrLeft takes spent self.old (byte_sequence bytes.now) result self.new };
 
-    /// The same for bytes of a fixed number.
+    /// Writes bytes of a fixed number, as `serialize_byte_sequence` those of any number.
     fn serialize_byte_array(&mut self, bytes: &[u8]) -> Result<bool, Self::Error>
         ensures serves { IsServedOrLeft takes spent self.old (byte_array bytes.now) result self.new };
 

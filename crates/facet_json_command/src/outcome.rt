@@ -38,7 +38,7 @@ pub fn failure(error: &io::Error) -> Outcome
     failure_of(error.kind())
 }
 
-/// The same, by the kind of its error.
+/// How a call of the system that failed with an error of this kind is answered.
 pub fn failure_of(kind: ErrorKind) -> Outcome
     ensures told { IsToldAs kind result }
     ensures fault { IsFaultOfRun result }

@@ -51,7 +51,7 @@ impl JsonError {
         }
     }
 
-    /// The same error with a copy of the source that its span is of, in place of one that it had. Where there is no memory for the copy
+    /// Gives the error a copy of the source that its span is of, in place of one that it had. Where there is no memory for the copy
     /// the error comes back as it was.
     pub fn with_source(
         self,

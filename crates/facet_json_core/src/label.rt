@@ -65,7 +65,7 @@ fn named(alloc: Global, said: &str, of: &str) -> Result<String, AllocError>
     format!(in alloc; "{said}{of}")
 }
 
-/// The same, where it is of a name, with a quote behind it.
+/// What is said, and of which name, with a quote behind it.
 fn quoted(alloc: Global, said: &str, name: &str) -> Result<String, AllocError>
     ensures { IfOk result (λ text. string_bytes text ≡ said.now ++ name.now ++ codes "'") }
 {
@@ -100,7 +100,7 @@ fn scan_label(alloc: Global, error: &ScanErrorKind) -> Result<String, AllocError
     }
 }
 
-/// The same while a value of this type is read.
+/// The label of what is wrong where no token stands, while a value of this type is read.
 fn context_label(
     alloc: Global,
     error: &ScanErrorKind,

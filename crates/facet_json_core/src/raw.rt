@@ -61,7 +61,7 @@ impl<'a> RawJson<'a> {
         self.0.as_str()
     }
 
-    /// The same text in memory of its own, or the value back where there is no memory for it: only a borrowed one takes any.
+    /// The raw text in memory of its own, or the value back where there is no memory for it: only a borrowed one takes any.
     pub fn into_owned(self, alloc: Global) -> Result<RawJson<'static>, RawJson<'a>>
         ensures { MatchResult result (λ raw. raw ≡ owned (bytes_of self.entry))
             (λ raw. (raw ≡ self.entry) × (is_owned self.entry ≡ false)) }

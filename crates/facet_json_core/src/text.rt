@@ -69,7 +69,7 @@ fn write_unknown_field<W: fmt::Write>(
     write!(f, "unknown field `{field}`, expected one of: {expected:?}")
 }
 
-/// The same, and which of them may be meant.
+/// The message of a field that the type does not have, with the fields that it has and the one that may be meant.
 fn write_suggestion<W: fmt::Write>(
     f: &mut fmt::Formatter<W>,
     field: &str,

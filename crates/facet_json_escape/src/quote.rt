@@ -54,7 +54,7 @@ pub fn push_framed(
     push_framed_here(out, after_comma, text, before_colon)
 }
 
-/// The same, compiled in line: of a text that is known when the program is compiled some stores are left.
+/// `push_framed`, compiled in line: of a text that is known when the program is compiled some stores are left.
 ///
 /// # Errors
 ///
@@ -76,7 +76,7 @@ pub fn push_framed_here(
     push_long(out, after_comma, bytes, before_colon)
 }
 
-/// The same of any text, piece by piece.
+/// Appends a text of any length between quotes, after a comma and before a colon where these are wanted, piece by piece.
 #[inline(never)]
 fn push_long(
     out: &mut Sink,
@@ -134,7 +134,7 @@ fn push_content(out: &mut Sink, bytes: &[u8]) -> Result<(), AllocError>
     push_content_bytewise(out, &bytes[at..])
 }
 
-/// The same, byte by byte.
+/// Appends what stands between the quotes, byte by byte: of the last bytes of a text, which are fewer than a window.
 #[inline(always)]
 fn push_content_bytewise(out: &mut Sink, bytes: &[u8]) -> Result<(), AllocError>
     ensures { OnOk result (out.new ≡ out.old ++ flat_map escaped bytes.now) }

@@ -41,7 +41,7 @@ pub(crate) enum Breaks {
 }
 
 impl Breaks {
-    /// The same after one more byte of white space.
+    /// How many line feeds have come after one more byte of white space.
     pub(crate) fn after(self, byte: u8) -> Breaks {
         match (byte, self) {
             (b'\n', Breaks::None) => Breaks::One,
@@ -94,7 +94,8 @@ fn after_mark(last: Sort, breaks: Breaks, leads: bool) -> Space {
     }
 }
 
-/// The same, or the least that keeps the two pieces apart: a line comment ends with its line, and two scalars are not one.
+/// The white space that is wanted, or the least that keeps the two pieces apart: a line comment ends with its line, and two
+/// scalars are not one.
 fn parted(last: Sort, next: Sort, space: Space) -> Space
     ensures { keeps_apart last next result ≡ true }
 {

@@ -342,7 +342,7 @@ impl<'de> Lookahead<'de> {
         Ok(Some(event))
     }
 
-    /// The same lookahead.
+    /// Copies the lookahead, its reader and the event that it holds.
     pub fn copy(&self, alloc: Global) -> Result<Lookahead<'de>, AllocError>
         ensures { IfOk result (λ s. lookahead_of s ≡ lookahead_of self.now) }
     {

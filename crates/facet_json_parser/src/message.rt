@@ -67,14 +67,14 @@ pub fn write_named<W: fmt::Write>(f: &mut fmt::Formatter<W>, said: &str, of: &st
     write!(f, "{said}{of}")
 }
 
-/// The same, where it is of a name, with a quote behind it.
+/// Writes what is said, and of which name, with a quote behind it.
 pub fn write_quoted<W: fmt::Write>(f: &mut fmt::Formatter<W>, said: &str, name: &str) -> fmt::Result
     ensures { DisplaysOnOk W.write_str_gives f.old result (Some (said.now ++ name.now ++ codes "`")) f.new }
 {
     write!(f, "{said}{name}`")
 }
 
-/// The same of two texts, with what stands between them.
+/// Writes what is said of two texts, with what stands between them.
 pub fn write_pair<W: fmt::Write>(
     f: &mut fmt::Formatter<W>,
     said: &str,

@@ -533,7 +533,7 @@ impl<'de> FormatParser<'de> for JsonParser<'de> {
         Some(self.input)
     }
 
-    /// The name of the format, `json`, in both modes. It is always there.
+    /// The name of the format, `json`, in each language. It is always there.
     fn format_namespace<'t>(&self) -> Option<&'t str>
         ensures name { IfSome result (λ name. name.now ≡ codes "json") }
         ensures given { IsSome result }

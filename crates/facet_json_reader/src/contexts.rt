@@ -97,7 +97,7 @@ impl Contexts {
         }
     }
 
-    /// The same containers.
+    /// Copies the containers.
     pub fn copy(&self, alloc: Global) -> Result<Contexts, AllocError>
         ensures { IfOk result (λ c. c ≡ self.now) }
     {

@@ -76,7 +76,7 @@ impl Language {
     }
 }
 
-/// The same where strings and numbers are those of RFC 8259 alone.
+/// What stands at `position`, where strings and numbers are those of RFC 8259 alone.
 #[inline(never)]
 fn cut_strict(buffer: &[u8], position: usize, mode: Mode) -> CutResult
     requires { position ≤ length buffer.now }

@@ -185,7 +185,7 @@ fn read_kind<'a>(
     }
 }
 
-/// The same of a token that is no string: nothing allocates.
+/// What a token of the buffer that is no string stands for: nothing allocates.
 #[inline(always)]
 pub(crate) fn read_other<'a>(
     buffer: &'a [u8],

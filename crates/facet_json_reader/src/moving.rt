@@ -141,7 +141,7 @@ impl Reader {
         self.move_past_start(kind, at)
     }
 
-    /// The same as `pass_start`, of which no event is made.
+    /// Passes a bracket that opens a container, as `pass_start`, of which no event is made.
     #[inline(always)]
     fn move_past_start(&mut self, kind: ContainerKind, at: usize) -> Option<Span>
         ensures { MatchOption result (self.new ≡ self.old)

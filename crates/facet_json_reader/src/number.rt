@@ -70,7 +70,7 @@ fn short_whole(input: &[u8], at: usize, first: u8) -> Option<(usize, Whole)>
     }
 }
 
-/// The same, where it is a number of RFC 8259.
+/// The length and the value of such a short whole number, where it is a number of RFC 8259.
 #[inline(always)]
 fn short_whole_strict(input: &[u8], at: usize, first: u8) -> Option<(usize, Whole)>
     requires here { slice_get input.now at ≡ Some first }
@@ -85,7 +85,7 @@ fn short_whole_strict(input: &[u8], at: usize, first: u8) -> Option<(usize, Whol
     Some((len, whole))
 }
 
-/// The same, where the language allows it.
+/// The length and the value of a short whole number, where the language allows it.
 #[inline(always)]
 pub(crate) fn short_whole_in(
     input: &[u8],
@@ -139,7 +139,8 @@ pub(crate) fn short_number_in(
     }
 }
 
-/// The same in each language but RFC 8259 alone. It is compiled apart, and its answer is small, so that no event needs memory.
+/// The length and the value of the number at `at`, where that allocates nothing, in each language but RFC 8259 alone. It is compiled apart,
+/// and its answer is small, so that no event needs memory.
 #[inline(never)]
 fn short_number(input: &[u8], at: usize, first: u8) -> Option<Short>
     requires here { slice_get input.now at ≡ Some first }
@@ -152,7 +153,7 @@ fn short_number(input: &[u8], at: usize, first: u8) -> Option<Short>
     }
 }
 
-/// The same where RFC 8259 alone is read.
+/// The length and the value of the number at `at`, where that allocates nothing and it is a number of RFC 8259.
 #[inline(never)]
 fn short_number_strict(input: &[u8], at: usize, first: u8) -> Option<Short>
     requires here { slice_get input.now at ≡ Some first }
@@ -166,7 +167,7 @@ fn short_number_strict(input: &[u8], at: usize, first: u8) -> Option<Short>
     }
 }
 
-/// The same part by part.
+/// The length and the value of a number of RFC 8259, found part by part.
 #[inline(always)]
 fn short_by_rfc_parts(input: &[u8], at: usize, first: u8) -> Option<Short>
     requires here { slice_get input.now at ≡ Some first }
@@ -181,7 +182,7 @@ fn short_by_rfc_parts(input: &[u8], at: usize, first: u8) -> Option<Short>
     short_by_parts(input, at, parts)
 }
 
-/// The same of the number at `at` that has these parts.
+/// The length and the value of the number at `at` that has these parts.
 #[inline(always)]
 fn short_by_parts(input: &[u8], at: usize, parts: Parts) -> Option<Short>
     requires here { OpensNumber input.now at }
@@ -294,7 +295,7 @@ fn eight_bytes(input: &[u8], at: usize) -> u64
     }
 }
 
-/// The same for digits alone.
+/// The length and the value of the whole number at `at`, which begins with a digit, where it has at most fifteen of them.
 #[inline(always)]
 fn digits_there(input: &[u8], at: usize, first: u8) -> Option<(usize, Whole)>
     requires here { slice_get input.now at ≡ Some first }
@@ -310,7 +311,7 @@ fn digits_there(input: &[u8], at: usize, first: u8) -> Option<(usize, Whole)>
     }
 }
 
-/// The same for digits after a minus.
+/// The length and the value of the whole number at `at`, which begins with a minus, where at most fifteen digits are after it.
 #[inline(always)]
 fn negative_there(input: &[u8], at: usize) -> Option<(usize, Whole)>
     requires here { slice_get input.now at ≡ Some minus }

@@ -246,7 +246,7 @@ impl Reader {
         event
     }
 
-    /// The same by a call.
+    /// Passes a decimal as `pass_decimal`, by a call: it stays out of the code of other events.
     #[inline(never)]
     fn pass_decimal_by_call<'de>(
         &mut self,

@@ -87,7 +87,7 @@ impl<'de> Held<'de> {
         event
     }
 
-    /// The same event. A text that is made is copied.
+    /// Copies the event. A text that is made is copied.
     pub fn copy(&self, alloc: Global) -> Result<Held<'de>, AllocError>
         ensures { IfOk result (λ h. passed_of h ≡ passed_of self.now) }
     {
@@ -121,7 +121,7 @@ impl Reader {
         }
     }
 
-    /// The same place, in the same containers.
+    /// Copies the reader: its place, and the containers that are open.
     pub fn copy(&self, alloc: Global) -> Result<Reader, AllocError>
         ensures { IfOk result (λ r. r ≡ self.now) }
     {
@@ -255,7 +255,7 @@ fn end(input: &[u8], language: Language, last: Span) -> Result<(), Refused>
     }
 }
 
-/// The same where RFC 8259 alone is read.
+/// Whether the input may end behind the root, where RFC 8259 alone is read.
 #[inline(never)]
 fn end_strict(input: &[u8], mode: Mode, last: Span) -> Result<(), Refused>
     requires { stop (span_of last) ≤ length input.now }

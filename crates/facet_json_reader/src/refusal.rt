@@ -178,7 +178,7 @@ pub enum Why {
 }
 
 impl Why {
-    /// The same, with its texts.
+    /// The kind of the refusal, with its texts.
     fn kind<'t>(self) -> DeserializeErrorKind<'t>
         ensures { complaint_of result ≡ why_of self }
     {

@@ -33,7 +33,8 @@ pub(crate) fn text_at<'de>(
     }
 }
 
-/// The same where RFC 8259 alone is read. It is a function of its own, so that lenient texts are compared with no bound.
+/// The text of a string without an escape, where RFC 8259 alone is read. It is a function of its own, so that lenient texts are
+/// compared with no bound.
 #[inline(never)]
 fn strict_text_at<'de>(input: &'de [u8], trust: Trust, at: usize) -> Option<(usize, &'de str)>
     requires here { slice_get input.now at ≡ Some quote }
@@ -45,7 +46,7 @@ fn strict_text_at<'de>(input: &'de [u8], trust: Trust, at: usize) -> Option<(usi
     text_from(input, trust, at, b' ')
 }
 
-/// The same where no byte below `least` stands in it.
+/// The text of a string in which no escape and no byte below `least` stands.
 #[inline(always)]
 fn text_from<'de>(input: &'de [u8], trust: Trust, at: usize, least: u8) -> Option<(usize, &'de str)>
     requires here { slice_get input.now at ≡ Some quote }
@@ -75,7 +76,7 @@ fn checked_text_at<'de>(input: &'de [u8], at: usize, least: u8) -> Option<(usize
     }
 }
 
-/// The same where a byte is no ASCII: the end of the text is found first, and then it is checked.
+/// The text of such a string in which a byte is no ASCII: its end is found first, and then it is checked.
 #[inline(never)]
 fn other_text_at<'de>(input: &'de [u8], at: usize, least: u8) -> Option<(usize, &'de str)>
     requires { slice_get input.now at ≡ Some quote }
@@ -132,7 +133,7 @@ trait Ends {
     ghost unescaped: { (least b : ℕ) → not (ends least b) ≡ true → is_unescaped least b ≡ true };
 }
 
-/// The bytes that may not stand in a text unescaped.
+/// Bytes that may stand in a text unescaped: any other ends their run.
 struct Unescaped;
 
 impl Ends for Unescaped {
@@ -152,7 +153,7 @@ impl Ends for Unescaped {
     }
 }
 
-/// These, and the bytes that are no ASCII.
+/// Those of them that are ASCII: any other ends their run.
 struct Ordinary;
 
 impl Ends for Ordinary {
@@ -192,7 +193,7 @@ fn run_end<E: Ends>(buffer: &[u8], from: usize, least: u8) -> usize
     run_end_bytewise::<E>(buffer, at, least)
 }
 
-/// The same, byte by byte: what is left after the last window.
+/// The offset of the first of these bytes, sought byte by byte: in what is left after the last window.
 #[inline(never)]
 fn run_end_bytewise<E: Ends>(buffer: &[u8], from: usize, least: u8) -> usize
     requires { from ≤ length buffer.now }

@@ -48,7 +48,7 @@ pub fn cut(buffer: &[u8], position: usize, mode: Mode) -> ScanResult
     }
 }
 
-/// The same, apart from the code that cuts what is in sight: its answer is a value of its own, so that a token in sight, which never passes
+/// Cuts what is not in sight. Its answer is a value of its own, so that a token in sight, which never passes
 /// through this, needs no memory.
 #[inline(always)]
 fn cut_apart(buffer: &[u8], position: usize, mode: Mode) -> ScanResult
@@ -60,7 +60,7 @@ fn cut_apart(buffer: &[u8], position: usize, mode: Mode) -> ScanResult
     result
 }
 
-/// The same by a call.
+/// Cuts what is not in sight, by a call: it stays out of the code for what is.
 #[inline(never)]
 fn cut_out_of_line(buffer: &[u8], position: usize, mode: Mode) -> ScanResult
     requires { position ≤ length buffer.now }

@@ -94,7 +94,7 @@ impl<'t> From<WriteFault> for Error<'t> {
 }
 
 impl<'t> Error<'t> {
-    /// The same error, without a span that does not lie within the input.
+    /// The error without a span that does not lie within the input.
     #[cold]
     #[inline(never)]
     pub(crate) fn within(self, input: &[u8]) -> Error<'t>

@@ -179,7 +179,7 @@ impl ReadFault {
         }
     }
 
-    /// The same fault, about this; a refused allocation where there is no memory to say it.
+    /// The fault with this detail; a refused allocation where there is no memory to say it.
     pub(crate) fn about(self, alloc: Global, detail: &str) -> ReadFault {
         match Box::new(alloc, Detail::of(detail)) {
             Ok(detail) => ReadFault {

@@ -46,7 +46,7 @@ impl<'de> Json<'de> {
         }
     }
 
-    /// The same of a value that holds no others, by an event.
+    /// What the next event, of a value that holds no others, is read as.
     #[inline(never)]
     fn scalar<V: OfEvent>(&mut self, input: &[u8]) -> Result<V, ReadFault>
         ensures { IfOk result (λ v. StepReads self.old (λ given. V.is input.now given v) self.new) }

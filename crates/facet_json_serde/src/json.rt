@@ -232,7 +232,7 @@ impl<'de> Json<'de> {
         )
     }
 
-    /// The same, once the event has come.
+    /// The mismatch, once the event has come.
     #[cold]
     #[inline(never)]
     fn unwanted(&self, wanted: Sort, event: Came<'_>) -> ReadFault {
@@ -308,7 +308,7 @@ impl<'de> Json<'de> {
         Some(wanted)
     }
 
-    /// The same of a value that is no key.
+    /// What is wanted, of a value that is no key, where a few bytes decide that it comes.
     #[inline(always)]
     pub(crate) fn plain<W: Wanted<'de>>(&mut self) -> Option<W>
         ensures { MatchOption result (self.new ≡ self.old)
@@ -393,7 +393,7 @@ impl<'de> Json<'de> {
         }
     }
 
-    /// The same by a look ahead.
+    /// Whether a null came, and is passed, by a look ahead.
     #[inline(never)]
     fn passes_null_slowly(&mut self) -> Result<bool, ReadFault>
         ensures { IfOk result (λ b. MatchBool b (StepGives self.old [] nothing self.new)
@@ -429,7 +429,7 @@ impl<'de> Json<'de> {
         Ok(self.text_slowly(input)?)
     }
 
-    /// The same by an event.
+    /// A text or a key, by its event.
     #[inline(never)]
     fn text_slowly(&mut self, input: &[u8]) -> Result<CowStr<'de>, ReadFault>
         ensures text { IfOk result
@@ -469,7 +469,7 @@ impl<'de> Json<'de> {
         }
     }
 
-    /// The same by an event.
+    /// A key, or the end of the map, by its event.
     #[cold]
     #[inline(never)]
     fn key_slowly(&mut self) -> Result<Option<CowStr<'de>>, ReadFault>
@@ -546,7 +546,7 @@ impl<'de> Json<'de> {
         self.marks.push(marked).is_ok()
     }
 
-    /// The same with a copy of the event that is ahead.
+    /// Keeps where the parser stands, with a copy of the event that is ahead.
     #[inline(never)]
     fn keep_with_event(&mut self) -> bool
         ensures { result ≡ true → (self.new.parser ≡ with_kept self.old.parser) × (self.new.ahead ≡ self.old.ahead) }

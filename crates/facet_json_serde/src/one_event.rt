@@ -16,7 +16,7 @@ use facet_json_reader::{ListStart, ObjectStart};
 pub(crate) enum Unread {
     /// This was wanted, and another event came.
     Other(Sort),
-    /// The same, where a whole number that came is one that this cannot hold.
+    /// Another event was wanted, where a whole number that came is one that this cannot hold.
     NoWhole(Sort),
     /// A number that this cannot hold.
     OutOfRange(Sort),
@@ -128,7 +128,7 @@ impl OfEvent for i128 {
     }
 }
 
-/// The same without a sign.
+/// A whole number of 128 bits without a sign, as a value or as a key.
 impl OfEvent for u128 {
     ghost use Rattle.facet_json_serde.specs.Ahead.{IsUnsigned};
 
@@ -161,7 +161,7 @@ pub(crate) fn finite_f32(text: &[u8]) -> Option<f32>
     }
 }
 
-/// The same of 64 bits.
+/// The finite float of 64 bits that is nearest to a number's text.
 #[inline(always)]
 pub(crate) fn finite_f64(text: &[u8]) -> Option<f64>
     ensures { IfSome result (λ x. parse_float binary64 text.now ≡ Some x) }
@@ -185,7 +185,7 @@ impl OfEvent for f32 {
     }
 }
 
-/// The same of 64 bits.
+/// A number as a float of 64 bits: a whole one, or a key, or one with a fraction or an exponent.
 impl OfEvent for f64 {
     ghost use Rattle.std.specs.Float.Ieee.{binary64};
     ghost use Rattle.facet_json_serde.specs.Ahead.{IsFloat};

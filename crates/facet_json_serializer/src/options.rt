@@ -236,7 +236,7 @@ pub(crate) fn push_key(
     push_framed_here(out, !first, key, true)
 }
 
-/// The same in any layout, piece by piece.
+/// Appends a key with what stands before it in any layout, piece by piece.
 #[inline(never)]
 fn push_indented_key(
     out: &mut Sink,

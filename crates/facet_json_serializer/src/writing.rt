@@ -83,7 +83,7 @@ impl<'i> Writing<'i> {
         self.begin_apart()
     }
 
-    /// The same, out of line: for the first value, outside a list, and where the text is indented.
+    /// Appends what stands before a value, out of line: for the first value, outside a list, and where the text is indented.
     #[inline(never)]
     fn begin_apart(&mut self) -> Result<(), AllocError>
         ensures { OnOk result (writing_of self.new ≡ value_begun (writing_of self.old)) }

@@ -1,4 +1,4 @@
-//! The plain scanner: what stands at a position, found without look-ahead.
+//! What stands at a position of a whole input: a gap, and then a token, the end or a fault.
 
 ghost use Rattle.std.specs.Prelude.{◌≡◌, ℕ, ◌+◌, Bool, false, ◌<◌, ◌≤◌, length, drop, Option, slice_get, IfSome, IfOk};
 ghost use Rattle.std.specs.Option.{option_map};
@@ -24,7 +24,7 @@ use facet_format::Span;
 use facet_format::numeral::{NumberHint, parts_at};
 
 /// Cuts what stands at `position`: the gap (RFC 8259, section 2), and then a token, the end or a fault. `buffer` is the
-/// whole input. What one look tells is made in line (`in_sight`), all else out of line, without look-ahead.
+/// whole input. What one look tells (`token_in_sight`) is made in line, all else out of line.
 ///
 /// ```text
 /// cut(b" [1]", 0, Mode::Plain)    Ok: Token::ArrayStart, span 1+1

@@ -1,6 +1,6 @@
-//! The language that is read, and what is known of its bytes.
+//! What may stand in the gaps between tokens, and what is known of the bytes that are read.
 
-/// Which language is read.
+/// What may stand in the gaps between tokens.
 #[derive(Debug, Clone, Copy, PartialEq, Eq)]
 pub enum Mode {
     /// JSON without comments.

@@ -68,7 +68,7 @@ pub fn no_number(start: usize, end: usize) -> Fault
     }
 }
 
-/// The same as `parse_number`, for a slice that is known to be UTF-8.
+/// Reads a number as `parse_number`, of a slice that is known to be UTF-8.
 pub fn parse_number_unchecked<'a>(
     buf: &'a [u8],
     start: usize,
@@ -256,7 +256,7 @@ fn last_digits(digits: &[u8], at: usize, before: u64) -> u64
     value
 }
 
-/// The same as `parse_unsigned`, where the value may pass 64 bits at each digit.
+/// The value of digits, as `parse_unsigned`, where it may pass 64 bits at each digit.
 fn parse_long(digits: &[u8]) -> Option<u64>
     requires { AreDigits digits.now }
     ensures { MatchOption result

@@ -47,7 +47,7 @@ pub fn gap_end(buffer: &[u8], position: usize, mode: Mode) -> usize
     }
 }
 
-/// The same where nearly all gaps are empty: another one is passed by a call.
+/// The offset after the gap at `position`, where nearly all gaps are empty: another one is passed by a call.
 #[inline(always)]
 pub fn empty_gap_end(buffer: &[u8], position: usize, mode: Mode) -> usize
     requires { position ≤ length buffer.now }
@@ -61,7 +61,7 @@ pub fn empty_gap_end(buffer: &[u8], position: usize, mode: Mode) -> usize
     }
 }
 
-/// The same by a call.
+/// The offset after the gap at `position`, by a call.
 #[inline(never)]
 fn blank_end_apart(buffer: &[u8], position: usize, mode: Mode) -> usize
     requires { position ≤ length buffer.now }
@@ -71,7 +71,7 @@ fn blank_end_apart(buffer: &[u8], position: usize, mode: Mode) -> usize
     blank_end(buffer, position, mode)
 }
 
-/// The same where a gap stands, most likely of white space alone.
+/// The offset after the gap at `position`, where one stands, most likely of white space alone.
 #[inline(always)]
 fn blank_end(buffer: &[u8], position: usize, mode: Mode) -> usize
     requires { position ≤ length buffer.now }
@@ -99,7 +99,7 @@ pub fn past_space(buffer: &[u8], position: usize) -> usize
     }
 }
 
-/// The same where some stands, most likely: no white space stands after it.
+/// The offset after the white space at `position`, where some stands, most likely one space: no white space stands after it.
 #[inline(always)]
 fn past_blank(buffer: &[u8], position: usize) -> usize
     requires { position ≤ length buffer.now }

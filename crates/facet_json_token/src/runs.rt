@@ -190,7 +190,7 @@ pub(crate) fn run_end_within<R: Run>(buffer: &[u8], at: usize, end: usize) -> us
     end
 }
 
-/// The same, byte by byte: of a buffer's last bytes, which are fewer than a window.
+/// The end of the run, byte by byte: of a buffer's last bytes, which are fewer than a window.
 #[inline(never)]
 fn run_end_bytewise<R: Run>(buffer: &[u8], at: usize, end: usize) -> usize
     requires in_order { at ≤ end }

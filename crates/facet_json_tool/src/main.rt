@@ -1,5 +1,5 @@
-//! Reads a JSON document from the standard input, and writes it anew, its events, or the answers of a parser's calls to the
-//! standard output.
+//! Reads a JSON document from the standard input, and writes it anew, its events, its tokens, or the answers of a parser's calls to
+//! the standard output.
 #![tactic(auto)]
 
 ghost use Rattle.std.specs.Prelude.{◌≡◌, ◌⊎◌, IfErr};

@@ -8,7 +8,7 @@ use crate::tree::Tree;
 use std::alloc::{AllocError, Global};
 
 impl Tree {
-    /// The same value, in memory of its own.
+    /// Copies the value into memory of its own.
     ///
     /// Lists and objects are copied by recursion, a level of the stack for each level of nesting.
     ///
@@ -29,7 +29,7 @@ impl Tree {
     }
 }
 
-/// The same value, in memory of its own.
+/// A copy of the value, in memory of its own.
 #[cycle(copy)]
 pub fn copy_tree(tree: &Tree, alloc: Global) -> Result<Tree, AllocError>
     ensures { MatchResult result

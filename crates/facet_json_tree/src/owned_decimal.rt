@@ -109,7 +109,7 @@ impl OwnedDecimal {
         self.0
     }
 
-    /// The same number, in memory of its own.
+    /// Copies the number into memory of its own.
     ///
     /// # Errors
     ///

@@ -19,7 +19,7 @@ pub fn trusted_agrees<'de>(alloc: Global, text: &'de str) -> (JsonParser<'de>, J
     )
 }
 
-/// The same of a text with comments.
+/// A trusted parser of a text with comments, the first of the two, and one that checks its strings answer alike.
 pub fn trusted_agrees_jsonc<'de>(
     alloc: Global,
     text: &'de str,
@@ -34,7 +34,7 @@ pub fn trusted_agrees_jsonc<'de>(
     )
 }
 
-/// The same of a text that is read strictly.
+/// A trusted parser of a text that is read strictly, the first of the two, and one that checks its strings answer alike.
 pub fn trusted_agrees_strict<'de>(
     alloc: Global,
     text: &'de str,

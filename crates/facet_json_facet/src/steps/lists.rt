@@ -105,7 +105,7 @@ pub fn take_end<'t>(parser: &mut JsonParser<'_>) -> Result<bool, DeserializeErro
     }
 }
 
-/// The same by a peek.
+/// Whether the array's end came, and is passed, by a peek: where a few bytes do not decide it.
 #[inline(never)]
 fn take_end_slowly<'t>(parser: &mut JsonParser<'_>) -> Result<bool, DeserializeError<'t>>
     ensures onward { GoesOn parser.old parser.new }

@@ -101,7 +101,7 @@ pub(crate) fn take_null<'t>(parser: &mut JsonParser<'_>) -> Result<bool, Deseria
     }
 }
 
-/// The same by a peek.
+/// Whether a null came, and is passed, by a peek: where a few bytes do not decide it.
 #[inline(never)]
 fn take_null_slowly<'t>(parser: &mut JsonParser<'_>) -> Result<bool, DeserializeError<'t>>
     ensures onward { GoesOn parser.old parser.new }

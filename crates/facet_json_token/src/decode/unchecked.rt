@@ -1,4 +1,4 @@
-//! The same decoders for contents that are known to be UTF-8, which they don't check again.
+//! The decoders for contents that are known to be UTF-8, which they don't check again.
 
 ghost use Rattle.std.specs.Prelude.{◌≡◌, ℕ, ◌+◌, ◌≤◌, List, Some, true, false, length, slice_range, string_bytes, IfOk, IfErr, IfSome, IsUtf8, MatchOption, MatchResult};
 ghost use Rattle.std.specs.Cow.{cow_str_bytes, IsOwnedStr, IsBorrowedStr};
