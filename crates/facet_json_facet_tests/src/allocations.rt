@@ -79,296 +79,121 @@ const CUT: DeserializeError<'static> = DeserializeError {
 };
 
 /// Truth values.
-static TRUTHS: [Row<'static>; 1] = [Row {
-    by: By::Each,
-    input: " true",
-    answer: Ok("true"),
-    wants: &[],
-    grows: false,
-}];
+#[rattlefmt::skip]
+static TRUTHS: [Row<'static>; 1] = [
+    Row { by: By::Each, input: " true", answer: Ok("true"), wants: &[], grows: false },
+];
 
 /// Numbers of every type.
+#[rattlefmt::skip]
 static NUMBERS: [Row<'static>; 3] = [
-    Row {
-        by: By::Each,
-        input: "7",
-        answer: Ok("7"),
-        wants: &[],
-        grows: false,
-    },
-    Row {
-        by: By::Lenient,
-        input: "007 [",
-        answer: Ok("7"),
-        wants: &[],
-        grows: false,
-    },
-    Row {
-        by: By::Each,
-        input: "-x",
-        answer: Err(NO_NUMBER),
-        wants: &[],
-        grows: false,
-    },
+    Row { by: By::Each, input: "7", answer: Ok("7"), wants: &[], grows: false },
+    Row { by: By::Lenient, input: "007 [", answer: Ok("7"), wants: &[], grows: false },
+    Row { by: By::Each, input: "-x", answer: Err(NO_NUMBER), wants: &[], grows: false },
 ];
 
 /// Numbers of 128 bits.
+#[rattlefmt::skip]
 static UNSIGNED: [Row<'static>; 3] = [
-    Row {
-        by: By::Each,
-        input: "18446744073709551616",
-        answer: Ok("18446744073709551616"),
-        wants: &[(0, 0)],
-        grows: false,
-    },
-    Row {
-        by: By::Each,
-        input: "\"\\u0035\"",
-        answer: Ok("5"),
-        wants: &[(0, 0)],
-        grows: false,
-    },
-    Row {
-        by: By::Each,
-        input: "\"5\"",
-        answer: Ok("5"),
-        wants: &[],
-        grows: false,
-    },
+    Row { by: By::Each, input: "18446744073709551616", answer: Ok("18446744073709551616"), wants: &[(0, 0)], grows: false },
+    Row { by: By::Each, input: "\"\\u0035\"", answer: Ok("5"), wants: &[(0, 0)], grows: false },
+    Row { by: By::Each, input: "\"5\"", answer: Ok("5"), wants: &[], grows: false },
 ];
 
 /// The same with a sign.
+#[rattlefmt::skip]
 static SIGNED: [Row<'static>; 2] = [
-    Row {
-        by: By::Each,
-        input: "-9223372036854775809",
-        answer: Ok("-9223372036854775809"),
-        wants: &[(0, 0)],
-        grows: false,
-    },
-    Row {
-        by: By::Each,
-        input: "\"-9223372036854775809\"",
-        answer: Ok("-9223372036854775809"),
-        wants: &[],
-        grows: false,
-    },
+    Row { by: By::Each, input: "-9223372036854775809", answer: Ok("-9223372036854775809"), wants: &[(0, 0)], grows: false },
+    Row { by: By::Each, input: "\"-9223372036854775809\"", answer: Ok("-9223372036854775809"), wants: &[], grows: false },
 ];
 
 /// Texts.
+#[rattlefmt::skip]
 static TEXTS: [Row<'static>; 4] = [
-    Row {
-        by: By::Each,
-        input: "\"ab\"",
-        answer: Ok("\"ab\""),
-        wants: &[],
-        grows: true,
-    },
-    Row {
-        by: By::Each,
-        input: "\"a\\u0062\\n\"",
-        answer: Ok("\"ab\\n\""),
-        wants: &[(0, 0)],
-        grows: false,
-    },
-    Row {
-        by: By::Each,
-        input: "18446744073709551616",
-        answer: Ok("\"18446744073709551616\""),
-        wants: &[(0, 0)],
-        grows: false,
-    },
-    Row {
-        by: By::Each,
-        input: "\"\\ud800\"",
-        answer: Err(ALONE),
-        wants: &[(0, 0)],
-        grows: false,
-    },
+    Row { by: By::Each, input: "\"ab\"", answer: Ok("\"ab\""), wants: &[], grows: true },
+    Row { by: By::Each, input: "\"a\\u0062\\n\"", answer: Ok("\"ab\\n\""), wants: &[(0, 0)], grows: false },
+    Row { by: By::Each, input: "18446744073709551616", answer: Ok("\"18446744073709551616\""), wants: &[(0, 0)], grows: false },
+    Row { by: By::Each, input: "\"\\ud800\"", answer: Err(ALONE), wants: &[(0, 0)], grows: false },
 ];
 
 /// Texts that the input lends.
+#[rattlefmt::skip]
 static LENT: [Row<'static>; 3] = [
-    Row {
-        by: By::Borrowed,
-        input: "\"ab\"",
-        answer: Ok("\"ab\""),
-        wants: &[],
-        grows: false,
-    },
-    Row {
-        by: By::Owned,
-        input: "\"ab\"",
-        answer: Err(NOT_LENT),
-        wants: &[],
-        grows: false,
-    },
-    Row {
-        by: By::Each,
-        input: "\"a\\u0062\"",
-        answer: Err(ESCAPED),
-        wants: &[(0, 0)],
-        grows: false,
-    },
+    Row { by: By::Borrowed, input: "\"ab\"", answer: Ok("\"ab\""), wants: &[], grows: false },
+    Row { by: By::Owned, input: "\"ab\"", answer: Err(NOT_LENT), wants: &[], grows: false },
+    Row { by: By::Each, input: "\"a\\u0062\"", answer: Err(ESCAPED), wants: &[(0, 0)], grows: false },
 ];
 
 /// Raw texts.
+#[rattlefmt::skip]
 static RAWS: [Row<'static>; 4] = [
-    Row {
-        by: By::Owned,
-        input: " [[1], 2] ",
-        answer: Ok("[[1], 2]"),
-        wants: &[(0, 0)],
-        grows: true,
-    },
-    Row {
-        by: By::Borrowed,
-        input: " [[1], 2] ",
-        answer: Ok("[[1], 2]"),
-        wants: &[(0, 0)],
-        grows: false,
-    },
-    Row {
-        by: By::Owned,
-        input: "7",
-        answer: Ok("7"),
-        wants: &[],
-        grows: true,
-    },
-    Row {
-        by: By::Borrowed,
-        input: "7",
-        answer: Ok("7"),
-        wants: &[],
-        grows: false,
-    },
+    Row { by: By::Owned, input: " [[1], 2] ", answer: Ok("[[1], 2]"), wants: &[(0, 0)], grows: true },
+    Row { by: By::Borrowed, input: " [[1], 2] ", answer: Ok("[[1], 2]"), wants: &[(0, 0)], grows: false },
+    Row { by: By::Owned, input: "7", answer: Ok("7"), wants: &[], grows: true },
+    Row { by: By::Borrowed, input: "7", answer: Ok("7"), wants: &[], grows: false },
 ];
 
 /// Texts that may be null.
+#[rattlefmt::skip]
 static OPTIONAL: [Row<'static>; 3] = [
-    Row {
-        by: By::Each,
-        input: "null",
-        answer: Ok("null"),
-        wants: &[],
-        grows: false,
-    },
-    Row {
-        by: By::Each,
-        input: "\"ab\"",
-        answer: Ok("\"ab\""),
-        wants: &[],
-        grows: true,
-    },
-    Row {
-        by: By::Each,
-        input: "\"a\\n\"",
-        answer: Ok("\"a\\n\""),
-        wants: &[(0, 0)],
-        grows: false,
-    },
+    Row { by: By::Each, input: "null", answer: Ok("null"), wants: &[], grows: false },
+    Row { by: By::Each, input: "\"ab\"", answer: Ok("\"ab\""), wants: &[], grows: true },
+    Row { by: By::Each, input: "\"a\\n\"", answer: Ok("\"a\\n\""), wants: &[(0, 0)], grows: false },
 ];
 
 /// Lists of lists.
-static LISTS: [Row<'static>; 1] = [Row {
-    by: By::Each,
-    input: "[[1,null],[],[2,3,4,5,6]]",
-    answer: Ok("[[1,null],[],[2,3,4,5,6]]"),
-    wants: &[(0, 0), (0, 1), (8, 1), (11, 1)],
-    grows: true,
-}];
+#[rattlefmt::skip]
+static LISTS: [Row<'static>; 1] = [
+    Row { by: By::Each, input: "[[1,null],[],[2,3,4,5,6]]",
+        answer: Ok("[[1,null],[],[2,3,4,5,6]]"), wants: &[(0, 0), (0, 1), (8, 1), (11, 1)], grows: true },
+];
 
 /// Lists of texts.
+#[rattlefmt::skip]
 static LISTS_OF_TEXTS: [Row<'static>; 3] = [
-    Row {
-        by: By::Comments,
-        input: "/**/[\"a\",/*b*/\"\\n\"]//",
-        answer: Ok("[\"a\",\"\\n\"]"),
-        wants: &[(0, 0), (5, 3)],
-        grows: true,
-    },
-    Row {
-        by: By::Each,
-        input: "[\"a\\n\", 1]",
-        answer: Err(NO_TEXT),
-        wants: &[(0, 0), (0, 1)],
-        grows: true,
-    },
-    Row {
-        by: By::Each,
-        input: "[\"a\", \"b\"  ",
-        answer: Err(CUT),
-        wants: &[(0, 0)],
-        grows: true,
-    },
+    Row { by: By::Comments, input: "/**/[\"a\",/*b*/\"\\n\"]//", answer: Ok("[\"a\",\"\\n\"]"), wants: &[(0, 0), (5, 3)], grows: true },
+    Row { by: By::Each, input: "[\"a\\n\", 1]", answer: Err(NO_TEXT), wants: &[(0, 0), (0, 1)], grows: true },
+    Row { by: By::Each, input: "[\"a\", \"b\"  ", answer: Err(CUT), wants: &[(0, 0)], grows: true },
 ];
 
 /// Maps.
-static MAPS: [Row<'static>; 1] = [Row {
-    by: By::Each,
-    input: "{\"c\":\"e\",\"a\":\"b\",\"\\u0063\":\"d\"}",
-    answer: Ok("{\"a\":\"b\",\"c\":\"d\"}"),
-    wants: &[(0, 0), (13, 3)],
-    grows: true,
-}];
+#[rattlefmt::skip]
+static MAPS: [Row<'static>; 1] = [
+    Row { by: By::Each, input: "{\"c\":\"e\",\"a\":\"b\",\"\\u0063\":\"d\"}",
+        answer: Ok("{\"a\":\"b\",\"c\":\"d\"}"), wants: &[(0, 0), (13, 3)], grows: true },
+];
 
 /// Any values.
+#[rattlefmt::skip]
 static TREES: [Row<'static>; 2] = [
-    Row {
-        by: By::Each,
-        input: "{\"a\":[1.5,\"b\\n\"],\"c\":null,\"d\":[2,3]}",
-        answer: Ok("{\"a\":[1.5,\"b\\n\"],\"c\":null,\"d\":[2,3]}"),
-        wants: &[(0, 0), (4, 1), (6, 3), (29, 1)],
-        grows: true,
-    },
-    Row {
-        by: By::Each,
-        input: "[[1,2,3,4,5],[6,7,8,9,10],[],[11]]",
-        answer: Ok("[[1,2,3,4,5],[6,7,8,9,10],[],[11]]"),
-        wants: &[(0, 0), (0, 1), (11, 1), (24, 1), (27, 1)],
-        grows: true,
-    },
+    Row { by: By::Each, input: "{\"a\":[1.5,\"b\\n\"],\"c\":null,\"d\":[2,3]}",
+        answer: Ok("{\"a\":[1.5,\"b\\n\"],\"c\":null,\"d\":[2,3]}"), wants: &[(0, 0), (4, 1), (6, 3), (29, 1)], grows: true },
+    Row { by: By::Each, input: "[[1,2,3,4,5],[6,7,8,9,10],[],[11]]",
+        answer: Ok("[[1,2,3,4,5],[6,7,8,9,10],[],[11]]"), wants: &[(0, 0), (0, 1), (11, 1), (24, 1), (27, 1)], grows: true },
 ];
 
 /// Structs of ten fields.
-static ACCOUNTS: [Row<'static>; 1] = [Row {
-    by: By::Each,
-    input: "{\"id\":7,\"name\":\"Ann\",\"email\":\"\",\"active\":true,\"age\":0,\"score\":-1,\"visits\":2,\"x\":[0],\"city\":\"\\n\",\"tags\":[\"a\"]}",
-    answer: Ok(
-        "{\"id\":7,\"name\":\"Ann\",\"email\":\"\",\"active\":true,\"age\":0,\"score\":-1,\"visits\":2,\"city\":\"\\n\",\"tags\":[\"a\"],\"parent\":null}",
-    ),
-    wants: &[(0, 0), (79, 1), (90, 1), (102, 1)],
-    grows: true,
-}];
+#[rattlefmt::skip]
+static ACCOUNTS: [Row<'static>; 1] = [
+    Row { by: By::Each, input: "{\"id\":7,\"name\":\"Ann\",\"email\":\"\",\"active\":true,\"age\":0,\"score\":-1,\"visits\":2,\"x\":[0],\"city\":\"\\n\",\"tags\":[\"a\"]}",
+        answer: Ok("{\"id\":7,\"name\":\"Ann\",\"email\":\"\",\"active\":true,\"age\":0,\"score\":-1,\"visits\":2,\"city\":\"\\n\",\"tags\":[\"a\"],\"parent\":null}"),
+        wants: &[(0, 0), (79, 1), (90, 1), (102, 1)], grows: true },
+];
 
 /// A struct of a name and an age.
 const ALICE: &str = "{\"age\":30,\"is\":[{}],\"name\":\"Alice\"}";
 
 /// Structs whose texts are their own.
-static PERSONS: [Row<'static>; 1] = [Row {
-    by: By::Each,
-    input: ALICE,
-    answer: Ok("{\"name\":\"Alice\",\"age\":30}"),
-    wants: &[(0, 0), (14, 1)],
-    grows: true,
-}];
+#[rattlefmt::skip]
+static PERSONS: [Row<'static>; 1] = [
+    Row { by: By::Each, input: ALICE, answer: Ok("{\"name\":\"Alice\",\"age\":30}"), wants: &[(0, 0), (14, 1)], grows: true },
+];
 
 /// Structs whose texts are lent.
+#[rattlefmt::skip]
 static LENT_PERSONS: [Row<'static>; 2] = [
-    Row {
-        by: By::Borrowed,
-        input: ALICE,
-        answer: Ok("{\"name\":\"Alice\",\"age\":30}"),
-        wants: &[(0, 0), (14, 1)],
-        grows: false,
-    },
-    Row {
-        by: By::Borrowed,
-        input: "{\"age\":30}",
-        answer: Err(NAMELESS),
-        wants: &[(0, 0)],
-        grows: false,
-    },
+    Row { by: By::Borrowed, input: ALICE, answer: Ok("{\"name\":\"Alice\",\"age\":30}"), wants: &[(0, 0), (14, 1)], grows: false },
+    Row { by: By::Borrowed, input: "{\"age\":30}", answer: Err(NAMELESS), wants: &[(0, 0)], grows: false },
 ];
 
 #[test]
@@ -408,28 +233,12 @@ fn a_growth_is_refused_in_another_value(rt: HostRuntime) {
 }
 
 /// Objects in which the number at the key `ab` is searched.
+#[rattlefmt::skip]
 static SEARCHES: [Row<'static>; 3] = [
-    Row {
-        by: By::Owned,
-        input: "{\"\\u0062\":1,\"\\u0061b\":2}",
-        answer: Ok("2"),
-        wants: &[(0, 0), (0, 1), (10, 1)],
-        grows: false,
-    },
-    Row {
-        by: By::Owned,
-        input: "{\"a\":[[[[[[[[[[[[[[[[[[[[[[[[[[[[[[[[[[[[[[[[[[[[[[[[[[[[[[[[[[[[[[[[[]]]]]]]]]]]]]]]]]]]]]]]]]]]]]]]]]]]]]]]]]]]]]]]]]]]]]]]]]]]]]]]]],\"ab\":2}",
-        answer: Ok("2"),
-        wants: &[(0, 0), (4, 1)],
-        grows: false,
-    },
-    Row {
-        by: By::Owned,
-        input: "{\"\\n\":1}",
-        answer: Ok("null"),
-        wants: &[(0, 0), (0, 1)],
-        grows: false,
-    },
+    Row { by: By::Owned, input: "{\"\\u0062\":1,\"\\u0061b\":2}", answer: Ok("2"), wants: &[(0, 0), (0, 1), (10, 1)], grows: false },
+    Row { by: By::Owned, input: "{\"a\":[[[[[[[[[[[[[[[[[[[[[[[[[[[[[[[[[[[[[[[[[[[[[[[[[[[[[[[[[[[[[[[[[]]]]]]]]]]]]]]]]]]]]]]]]]]]]]]]]]]]]]]]]]]]]]]]]]]]]]]]]]]]]]]]]],\"ab\":2}",
+        answer: Ok("2"), wants: &[(0, 0), (4, 1)], grows: false },
+    Row { by: By::Owned, input: "{\"\\n\":1}", answer: Ok("null"), wants: &[(0, 0), (0, 1)], grows: false },
 ];
 
 /// The number at the key `ab` of an object.
@@ -442,21 +251,11 @@ fn number_at_ab<'t>(
 }
 
 /// Inputs in which the number that `/a~1b/0/ab` names is searched.
+#[rattlefmt::skip]
 static POINTED: [Row<'static>; 2] = [
-    Row {
-        by: By::Owned,
-        input: "{\"a/b\":[{\"\\u0062\":1,\"\\u0061b\":2}]}",
-        answer: Ok("2"),
-        wants: &[(0, 0), (6, 1), (7, 1), (8, 1), (18, 1)],
-        grows: false,
-    },
-    Row {
-        by: By::Owned,
-        input: "{\"\\u0061/b\":[[]]}",
-        answer: Ok("null"),
-        wants: &[(0, 0), (0, 1), (11, 1), (12, 1)],
-        grows: false,
-    },
+    Row { by: By::Owned, input: "{\"a/b\":[{\"\\u0062\":1,\"\\u0061b\":2}]}",
+        answer: Ok("2"), wants: &[(0, 0), (6, 1), (7, 1), (8, 1), (18, 1)], grows: false },
+    Row { by: By::Owned, input: "{\"\\u0061/b\":[[]]}", answer: Ok("null"), wants: &[(0, 0), (0, 1), (11, 1), (12, 1)], grows: false },
 ];
 
 /// The number that the pointer names.
