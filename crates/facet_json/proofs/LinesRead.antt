@@ -5,12 +5,12 @@ use Rattle.std.specs.Io.KnownBytes.{IsAtEnd}
 use Rattle.std.specs.Io.BufRead.{drop_through}
 use Rattle.std.proofs.BufReadLemmas.{drop_through-append}
 use Rattle.facet_json.specs.declared.lines.Place.TheVariants.{Between, Within, Past}
-use Rattle.facet_json.specs.Lines.{begin, lines, ComeFirst, Lines, PassesLines, PassesBlank, PassesTo, RefusesLine, HasNoLine, IsBlank}
+use Rattle.facet_json.specs.Lines.{begin, lines, ComeFirst, Lines, PassesLines, PassesBlank, PassesTo, RefusesLine, IsBlank}
 use Rattle.facet_json.specs.LineViews.{TellsLine, IsReadFailure}
 use Rattle.facet_json.specs.declared.lines.LineError.{LineError}
 use Rattle.facet_json.specs.declared.lines.LineError.TheVariants.{TooLong, Memory, Io}
 use Rattle.facet_json.specs.Inner.LinePlaces.{left_at}
-use Rattle.facet_json.specs.Inner.LinePieces.{LineGrows, GoesPast, KeepsNext, LeavesNext}
+use Rattle.facet_json.specs.Inner.LinePieces.{LineGrows, GoesPast}
 
 -- The bytes before the first line feed, or all.
 abbrev pub first_line : List ℕ → List ℕ

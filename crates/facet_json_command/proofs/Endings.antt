@@ -3,7 +3,7 @@ use Rattle.std.proofs.Common.{◌≡◌, ◌≢◌, ◌⊎◌, ℕ, List, [], Op
 use Rattle.std.specs.Io.KnownBytes.{Keeps}
 use Rattle.facet_json_document.specs.Language.{Language}
 use Rattle.facet_json_command.specs.declared.outcome.Outcome.{Outcome}
-use Rattle.facet_json_command.specs.declared.outcome.Outcome.TheVariants.{Done, Refused, Io, Usage}
+use Rattle.facet_json_command.specs.declared.outcome.Outcome.TheVariants.{Io, Usage}
 use Rattle.facet_json_command.specs.Outcome.{IsFailure, IsFaultOfRun}
 use Rattle.facet_json_command.specs.Run.{OutcomeWithin, OnlyGrows, Lists}
 use Rattle.facet_json_command.proofs.Printing.{appends_nothing}

@@ -24,7 +24,7 @@ use Rattle.facet_json_command.specs.Lines.{place_line}
 use Rattle.facet_json_command.specs.TokenLines.{token_line, token_lines, fault_code, EndAs}
 use Rattle.facet_json_command.specs.TokenViews.{line_answered, text_of_token, code_of_kind}
 use Rattle.facet_json_command.specs.Outcome.{IsFaultOfRun}
-use Rattle.facet_json_command.specs.Run.{OnlyGrows, Stops, Prints, AreTokensListed, ListsTokens}
+use Rattle.facet_json_command.specs.Run.{OnlyGrows, Prints, AreTokensListed, ListsTokens}
 use Rattle.facet_json_command.specs.Session.{outcome_of}
 use Rattle.facet_json_command.proofs.Printing.{appends_both, appends_keeps, stops_behind, stops_keeps}
 use Rattle.facet_json_command.proofs.Listing.{grows_keeps}

@@ -1,16 +1,14 @@
 -- The events that come from a position on lie after it, in order and within the buffer.
 use Rattle.std.specs.Prelude.{ℕ, List}
 use Rattle.std.proofs.Common.{◌≡◌, ℕ, ◌<◌, ◌≤◌, Bool, true, false, List, length, refl, arith}
-use Rattle.facet_json_token.specs.Gap.{Mode}
 use Rattle.facet_json_token.specs.Token.{Token}
 use Rattle.facet_format.specs.Span.{stop}
 use Rattle.facet_json_token.specs.Tokens.{Tokens, ended, refused, next}
-use Rattle.facet_json_token.specs.TokenList.{tokens_from}
-use Rattle.facet_json_document.specs.Language.{Language, lenient, rules, Rules, lenient_rules, strict_rules}
+use Rattle.facet_json_document.specs.Language.{Language, rules, Rules, lenient_rules, strict_rules}
 use Rattle.facet_json_document.specs.Place.{Place, after_key, after_colon, after_root, Turn, stops, passes, says, says_scalar, names, goes_on, led}
 use Rattle.facet_format.specs.Event.{ContainerKind, Passed}
 use Rattle.facet_json_document.specs.Walk.{event_at, scalar_event, key_event}
-use Rattle.facet_json_document.specs.Future.{Future, gives, finished, stuck, Stage, within, over, after_value, stack_after, stage_after, turn, behind_root, reads, reads_by, reads_colon_by}
+use Rattle.facet_json_document.specs.Future.{Future, gives, finished, stuck, Stage, within, over, after_value, stack_after, stage_after, turn, behind_root, reads_by, reads_colon_by}
 use Rattle.facet_json_document.proofs.InOrder.{InOrder, at_a_token}
 use Rattle.facet_json_document.specs.StrictTokens.{tokens_in}
 use Rattle.facet_json_document.proofs.TokensIn.{tokens_in-in_order}

@@ -4,10 +4,9 @@ use Rattle.std.proofs.lemmas.List.{append-nil}
 use Rattle.facet_json_document.specs.Tree.{Tree, Trees, no_trees, tree, Pairs, no_pairs, pair}
 use Rattle.facet_json_tree.specs.Views.{tree_view, trees_view, pairs_view}
 use Rattle.facet_json_tree.specs.declared.tree.Tree.{Tree as RustTree}
-use Rattle.facet_json_layout.specs.Nodes.{items, members, trees_list, pairs_list, first_value, value_view}
-use Rattle.facet_json_layout.specs.Inner.Looking.{from, trees_from, pairs_from, trees_at, pairs_at, IsItem, MemberStands}
+use Rattle.facet_json_layout.specs.Nodes.{items, members, trees_list, pairs_list}
+use Rattle.facet_json_layout.specs.Inner.Looking.{from, trees_from, pairs_from, trees_at, pairs_at}
 use Rattle.facet_json_layout.specs.declared.document.value.Value.{Value}
-use Rattle.facet_json_layout.proofs.NodesSeen.{nodes-at, tree-first, pair-first}
 
 -- a member that was copied
 abbrev pub member_seen : String Global × RustTree → List ℕ × Tree

@@ -29,7 +29,7 @@ use Rattle.facet_json_document.proofs.Spans.BytesAhead.{moves-onward, moves-goes
 use Rattle.facet_json_parser.proofs.KeptSpots.{found-spot}
 use Rattle.facet_json_parser.proofs.PointsByPlace.{above-missing, without-missing}
 use Rattle.facet_json_parser.specs.Lookahead.{Lookahead, first_lookahead, spot_of}
-use Rattle.facet_json_parser.specs.Ready.{IsSound, ArePoints, IsReady}
+use Rattle.facet_json_parser.specs.Ready.{ArePoints, IsReady}
 use Rattle.facet_json_parser.specs.Steps.{PassesOne, ShowsOne, QueuesOne}
 use Rattle.facet_json_parser.specs.Views.{kept_spot, cursor_of}
 use Rattle.facet_json_parser.proofs.AnswersAreMoves.{next-refused, peek-refused}

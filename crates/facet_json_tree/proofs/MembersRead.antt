@@ -1,10 +1,7 @@
 -- The members of an object, one by one: what was read so far, and how what is refused in one answers for all.
-use Rattle.std.proofs.Common.{◌≡◌, ◌≢◌, inl, inr, ℕ, true, false, List, [], ◌∷◌, ◌++◌, refl, sym, ap, ◌∙◌, subst, map, string_bytes}
+use Rattle.std.proofs.Common.{◌≡◌, inl, inr, ℕ, true, false, List, [], ◌∷◌, ◌++◌, refl, sym, ap, ◌∙◌, subst, map, string_bytes}
 use Rattle.std.specs.declared.string.String.{String}
 use Rattle.std.specs.declared.alloc.Global.{Global}
-use Rattle.facet_format.specs.declared.event.FieldKey.{FieldKey}
-use Rattle.facet_format.specs.declared.event.ParseEventKind.{ParseEventKind}
-use Rattle.facet_format.specs.declared.event.ParseEventKind.TheVariants as kinds
 use Rattle.facet_json_tree.specs.declared.tree.Tree.{Tree as RustTree}
 use Rattle.facet_format.specs.Complaint.{Refusal}
 use Rattle.facet_format.specs.Event.{struct_end, field_key, Text, bytes_of, Passed}
@@ -12,7 +9,6 @@ use Rattle.facet_json_token.specs.Tokens.{Tokens}
 use Rattle.facet_json_document.specs.Tree.{Tree, Pairs, no_pairs, pair}
 use Rattle.facet_json_document.specs.Place.{Place}
 use Rattle.facet_json_document.specs.Future.{Future, gives}
-use Rattle.facet_format.specs.Views.{event_kind_of}
 use Rattle.facet_json_tree.specs.Views.{pairs_view, tree_view}
 use Rattle.facet_json_core.specs.Told.{is_member, TellsMembers, BreaksMembers}
 use Rattle.facet_json_core.specs.Reading.{IsValueRead, IsValueUnread}

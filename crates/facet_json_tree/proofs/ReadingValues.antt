@@ -1,5 +1,5 @@
 -- A reader of a tree: what its refusals answer for, and how a value is read or refused from its first event on.
-use Rattle.std.proofs.Common.{◌≡◌, ◌<◌, inl, inr, ℕ, false, List, None, Some, refl, sym, ap, ◌∙◌, subst, arith}
+use Rattle.std.proofs.Common.{◌≡◌, ◌<◌, inl, inr, ℕ, false, List, Some, refl, sym, ap, ◌∙◌, subst, arith}
 use Rattle.facet_format.specs.Complaint.{Refusal}
 use Rattle.facet_format.specs.Event.{ContainerKind, struct_start, sequence_start, scalar, Scalar, Passed}
 use Rattle.facet_json_token.specs.Tokens.{Tokens}

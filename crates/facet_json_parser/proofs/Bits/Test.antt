@@ -1,9 +1,8 @@
 -- One bit of a word as a Bool, through each operation.
-use Rattle.std.proofs.Common.{◌≡◌, ℕ, zero, suc, ◌+◌, ◌-◌, ◌*◌, ◌/◌, ◌%◌, ◌^◌, ◌<◌, min, max, Bool, true, false, not, ◌&&◌, ◌||◌, ◌==◌, List, get_or, cond, T, ◌⊎◌, inl, inr, refl, sym, ap, ◌∙◌, subst, arith, w64, mod-lt, zero-lt-suc, le_of_suc-le-suc, not-suc-le-zero, mul_assoc}
+use Rattle.std.proofs.Common.{◌≡◌, ℕ, zero, suc, ◌+◌, ◌-◌, ◌*◌, ◌/◌, ◌%◌, ◌^◌, ◌<◌, min, max, Bool, true, false, not, ◌&&◌, ◌||◌, ◌==◌, List, get_or, cond, refl, sym, ap, ◌∙◌, subst, arith, w64, mod-lt, zero-lt-suc, le_of_suc-le-suc, not-suc-le-zero, mul_assoc}
 use Rattle.std.specs.Int.{bit_at}
 use Rattle.std.proofs.lemmas.Nat.Bits.{bit_at_and, bit_at_or, bit_at_xor, bit_at_not}
 use Rattle.std.proofs.lemmas.Simd.{bit_mask_l}
-use Rattle.std.proofs.lemmas.Bool.{cases_order}
 use lib.Bits.{bit_and, bit_or, bit_xor, shifted_even}
 use lib.Pow.{field, mod-mod-pow, shr-shr, shl-shr, pow-add}
 use lib.Lanes.{mask_l}

@@ -1,4 +1,4 @@
-use Rattle.std.proofs.Common.{refl, sym, subst, ◌∙◌, inr}
+use Rattle.std.proofs.Common.{refl, subst, ◌∙◌, inr}
 use Rattle.std.proofs.lemmas.Result.{err_from_is_err_and}
 use Rattle.facet_format.specs.Views.{parse_refusal}
 use Rattle.facet_json_document.specs.UnreadLaws.{RefusalWithin}

@@ -1,21 +1,14 @@
 -- Whole numbers: which of them a type holds, and how they come back from their text.
-use Rattle.std.proofs.Common.{◌≡◌, ◌<◌, ◌≤◌, ◌^◌, inl, inr, ℕ, Bool, true, false, cond, nat_lt, List, Option, Some, None, refl, sym, ap, ◌∙◌, arith}
+use Rattle.std.proofs.Common.{◌≡◌, ◌<◌, ◌≤◌, ◌^◌, ℕ, Bool, true, false, cond, nat_lt, Some, None, refl, sym, ap, ◌∙◌, arith}
 use Rattle.std.specs.Prelude.{ℤ, pos, negsuc, FitsSigned, unsigned_abs}
-use Rattle.std.specs.Option.{option_and_then}
 use Rattle.std.specs.Int.{Width, FitsUnsigned}
 use Rattle.std.proofs.lemmas.Bool.{ltb-true, lt-ltb}
 use mir.Val.{bits, hbits}
 use lib.Dec.{ltb→lt, lt→ltb, le→leb}
-use Rattle.facet_format.specs.Complaint.{Refusal}
-use Rattle.facet_json_document.specs.Node.{Node, scalar}
-use Rattle.facet_json_document.specs.Node as node
 use Rattle.facet_json_document.specs.Text.{as_array}
 use Rattle.facet_json_document.specs.Tree.{Tree, u64, i64}
-use Rattle.facet_json_document.specs.Meaning.{meaning}
-use Rattle.facet_json_document.specs.Now.{Now}
 use Rattle.facet_json_document.specs.AsRead.{ReadsAs, u64_is_whole, i64_is_whole, FitsBits, RawParts, WellFormed}
 use Rattle.facet_json_core.specs.Meaning.Laws.{ReadsBack}
-use Rattle.facet_json_core.specs.Meaning.Reading.{IsRead, IsUnread}
 use Rattle.facet_json_core.specs.Meaning.Readings.{leaf, unsigned_in, signed_in, unsigned_of, signed_of}
 use Rattle.facet_json_core.proofs.Meaning.Leaves.LeafLaws.{leaf-back}
 

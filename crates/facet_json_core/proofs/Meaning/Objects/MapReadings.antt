@@ -10,7 +10,6 @@ use Rattle.facet_json_document.specs.Node.{Node, scalar, Members, no_members, me
 use Rattle.facet_json_document.specs.Node as node
 use Rattle.facet_json_document.specs.Meaning.{text_in_tree, meaning}
 use Rattle.facet_json_document.specs.Now.{Now}
-use Rattle.facet_json_core.specs.Reading.{LacksMemory}
 use Rattle.facet_json_core.specs.Meaning.Nodes.{StandsBefore}
 use Rattle.facet_json_core.specs.Meaning.Reading.{IsRead, IsUnread}
 use Rattle.facet_json_core.specs.Meaning.Objects.{members_of, BeginsObject, IsNoObject, PassesKey, LacksKey}

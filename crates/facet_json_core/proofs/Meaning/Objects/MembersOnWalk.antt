@@ -1,7 +1,7 @@
 -- How the members of an object are passed one by one on a walk: its first event, a key with its value, and the end.
 use Rattle.std.specs.Prelude.{ℕ, List, drop, slice_get, length}
-use Rattle.std.proofs.Common.{◌≡◌, ◌+◌, ◌⊎◌, inl, inr, ℕ, suc, true, false, List, [], ◌∷◌, ◌++◌, Option, None, Some, IsSome, refl, sym, ap, ◌∙◌, arith, append_assoc, length-append}
-use Rattle.facet_format.specs.Complaint.{Refusal, no_memory}
+use Rattle.std.proofs.Common.{◌≡◌, ◌+◌, inr, ℕ, suc, true, false, List, [], ◌∷◌, ◌++◌, None, Some, IsSome, refl, sym, ap, ◌∙◌, arith, append_assoc, length-append}
+use Rattle.facet_format.specs.Complaint.{Refusal}
 use Rattle.facet_format.specs.Event.{Event, EventKind, Passed, object, sequence_start, sequence_end, struct_start, struct_end, field_key, Text, bytes_of}
 use Rattle.facet_format.specs.Event as event
 use Rattle.facet_format.specs.Cursor.{Cursor, Spot, at_spot, unpeeked}
@@ -17,8 +17,8 @@ use Rattle.facet_json_document.proofs.TreesOfParts.{object_meant, member_meant}
 use Rattle.facet_json_document.specs.Now.{Now, StandsAt}
 use Rattle.facet_json_core.proofs.WalkTells.{key-named}
 use Rattle.facet_json_core.specs.Meaning.Nodes.{StandsBefore, StandsAfter}
-use Rattle.facet_json_core.specs.Meaning.Passing.{WalksPast, LacksAlone}
-use Rattle.facet_json_core.specs.Meaning.Objects.{members_of, begins_object, BeginsObject, IsNoObject, key_or_end, LacksKey}
+use Rattle.facet_json_core.specs.Meaning.Passing.{WalksPast}
+use Rattle.facet_json_core.specs.Meaning.Objects.{members_of, begins_object, BeginsObject, IsNoObject, key_or_end}
 use Rattle.facet_json_core.proofs.Meaning.Leaves.LeafReadings.{walk-first}
 use Rattle.facet_json_core.proofs.Meaning.WalkPlaces.{drop-get, drop-suc, drop-node}
 

@@ -1,11 +1,11 @@
 -- Trees on a walk: where a parser passes what events tell, it passes the node that stands there, and what they tell is the node's tree.
-use Rattle.std.specs.Prelude.{ℕ, List, drop, length}
-use Rattle.std.proofs.Common.{◌≡◌, inl, ℕ, suc, List, [], ◌∷◌, None, Some, refl, sym, ap, ◌∙◌, subst, arith, length-append}
+use Rattle.std.specs.Prelude.{ℕ, drop, length}
+use Rattle.std.proofs.Common.{◌≡◌, inl, ℕ, suc, None, Some, sym, ap, ◌∙◌, subst, arith, length-append}
 use Rattle.std.proofs.lemmas.List.{length-drop}
 use Rattle.facet_format.specs.Complaint.{Refusal}
 use Rattle.facet_format.specs.Cursor.{Cursor, at_spot, unpeeked}
 use Rattle.facet_format.specs.Part.{Source}
-use Rattle.facet_format.specs.Event.{Event, Passed}
+use Rattle.facet_format.specs.Event.{Event}
 use Rattle.facet_json_document.specs.Future.{Future, finished, events_before}
 use Rattle.facet_json_document.specs.Meaning.{tree_of}
 use Rattle.facet_json_document.specs.Node.{Node}

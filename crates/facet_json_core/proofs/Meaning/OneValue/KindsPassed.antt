@@ -1,15 +1,13 @@
 -- What is passed with an event, by what is known of its kind.
 use Rattle.std.proofs.Common.{◌≡◌, true, List, ℕ, Option, Some, None}
 use Rattle.std.specs.Option.{option_map}
-use Rattle.facet_format.specs.Event.{array, object, EventKind, struct_start, struct_end, sequence_start, sequence_end, field_key, scalar}
-use Rattle.facet_json_document.specs.Tree.{Tree}
+use Rattle.facet_format.specs.Event.{array, EventKind, struct_end, sequence_end, field_key, scalar}
 use Rattle.facet_json_document.specs.Now.{Now}
 use Rattle.facet_json_core.specs.Meaning.Borrowed.{lent}
-use Rattle.facet_json_core.specs.Meaning.ListSteps.{begins_list, ends_list}
-use Rattle.facet_json_core.specs.Meaning.Objects.{begins_object, key_or_end}
-use Rattle.facet_json_core.specs.Meaning.OneValue.{PassesValue, IsInside, PassesEndOf, PassesByKind, PassesMemberOrEnd}
+use Rattle.facet_json_core.specs.Meaning.ListSteps.{ends_list}
+use Rattle.facet_json_core.specs.Meaning.Objects.{key_or_end}
+use Rattle.facet_json_core.specs.Meaning.OneValue.{PassesValue, PassesEndOf, PassesByKind, PassesMemberOrEnd}
 use Rattle.facet_json_core.specs.Meaning.Optional.{is_null_event}
-use Rattle.facet_json_core.specs.Meaning.Readings.{taken}
 
 module _ (old new : Now) where
   pub list-ended : (k : EventKind) → ends_list k ≡ true → PassesByKind k old new → PassesEndOf array old new

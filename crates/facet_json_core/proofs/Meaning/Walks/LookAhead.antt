@@ -1,5 +1,5 @@
 -- A look ahead on a walk: what it looked for is passed, or the parser stands where it stood.
-use Rattle.std.proofs.Common.{◌≡◌, Bool, true, false, List, refl, sym, ap, ◌∙◌}
+use Rattle.std.proofs.Common.{◌≡◌, Bool, true, false, List, refl, ap, ◌∙◌}
 use Rattle.facet_format.specs.Complaint.{Refusal}
 use Rattle.facet_format.specs.Event.{Event, EventKind, Passed, sequence_end, scalar, null}
 use Rattle.facet_format.specs.Cursor.{at_spot, peeked_at}
