@@ -98,30 +98,9 @@ impl<'de> Lookahead<'de> {
         Ok(Some(held.into_event()))
     }
 
-    /// Passes the next event and answers it, where none is held and a few bytes decide it. Else nothing changes.
-    #[inline(always)]
-    pub fn next_quickly(
-        &mut self,
-        input: &'de [u8],
-        language: Language,
-        trust: Trust,
-    ) -> Option<ParseEvent<'de>>
-        requires utf8 { trust ≡ Trust.Utf8 → IsUtf8 input.now }
-        requires sound { IsSound input.now (language_of language) (lookahead_of self.old) }
-        ensures sound { IsSound input.now (language_of language) (lookahead_of self.new) }
-        ensures passed { MatchOption result (self.new ≡ self.old)
-            (λ e. PassesOne (on_input input.now (language_of language)) (spot_of (lookahead_of self.old)) (Ok (Some (event_of e)))
-            (spot_of (lookahead_of self.new))) }
-    {
-        if self.held.is_some() {
-            return None;
-        }
-        self.reader.pass_quickly(input, language, trust)
-    }
-
     /// Passes what is wanted and answers it with its span, where no event is held and a few bytes decide that it comes. Else nothing changes.
     #[inline(always)]
-    pub fn next_wanted<W: Wanted<'de>>(
+    pub fn step<W: Wanted<'de>>(
         &mut self,
         input: &'de [u8],
         language: Language,

@@ -23,7 +23,7 @@ ghost use Rattle.facet_json_parser.specs.Steps.{QueuesNow};
 
 use crate::lookahead::Lookahead;
 use crate::points::{Point, bring_back, drop_point, keep};
-use facet_format::{FormatParser, ParseError, ParseEvent, SavePoint, Span};
+use facet_format::{FormatParser, ParseError, ParseEvent, ParseEventKind, SavePoint, Span};
 use facet_json_reader::{Language, Refused, Sought, Wanted};
 use facet_json_token::{Mode, Trust};
 use std::alloc::Global;
@@ -214,23 +214,9 @@ impl<'de> JsonParser<'de> {
         ParseError::from(refused)
     }
 
-    /// The next event, where a few bytes decide it. Else nothing changes.
-    #[inline(always)]
-    fn next_quickly(&mut self) -> Option<ParseEvent<'de>>
-        ensures event { MatchOption result (self.new ≡ self.old)
-            (λ e. Moves self.old next (answer_of_event (Ok (Some e))) self.new) }
-        ensures within { NowWithin self.old }
-    {
-        if self.refusal.is_some() {
-            return None;
-        }
-        self.lookahead
-            .next_quickly(self.input, self.language, self.trust)
-    }
-
     /// Passes what is wanted, where a few bytes decide that it comes. Else nothing changes.
     #[inline(always)]
-    fn wanted<W: Wanted<'de>>(&mut self) -> Option<(W, Span)>
+    fn step<W: Wanted<'de>>(&mut self) -> Option<(W, Span)>
         ensures passed { MatchOption result (self.new ≡ self.old)
             (λ r. Moves self.old next (event (Ok (Some (record { kind = W.kind r.0; span = span_of r.1 })))) self.new) }
         ensures within { NowWithin self.old }
@@ -238,8 +224,7 @@ impl<'de> JsonParser<'de> {
         if self.refusal.is_some() {
             return None;
         }
-        self.lookahead
-            .next_wanted(self.input, self.language, self.trust)
+        self.lookahead.step(self.input, self.language, self.trust)
     }
 
     /// Whether something else comes next, as its first byte tells.
@@ -303,7 +288,7 @@ pub fn next_wanted<'de, W: Wanted<'de>>(parser: &mut JsonParser<'de>) -> Option<
     ensures { MatchOption result (parser.new ≡ parser.old)
         (λ r. PassesWanted parser.old (record { kind = W.kind r.0; span = span_of r.1 }) parser.new) }
 {
-    parser.wanted()
+    parser.step()
 }
 
 /// Whether something else comes next, as its first byte tells. Where it does not tell, the answer is no. Nothing is read.
@@ -345,10 +330,10 @@ impl<'de> FormatParser<'de> for JsonParser<'de> {
         ensures next { IfOk result (λ o. IfSome o (λ e. PassesNext self.old (event_of e) self.new)) }
         ensures end { IfOk result (λ o. IfNone o (IsOver self.old self.new)) }
     {
-        let Some(event) = self.next_quickly() else {
+        let Some((kind, span)) = self.step::<ParseEventKind<'de>>() else {
             return self.next_apart();
         };
-        Ok(Some(event))
+        Ok(Some(ParseEvent::new(kind, span)))
     }
 
     /// Answers the next event and lets it stay the next one, or `None` after the document's last one.

@@ -31,8 +31,8 @@ use Rattle.facet_json_document.proofs.TokensIn.{strict-begins}
 use Rattle.facet_json_document.proofs.WalkComes.{follows, reads-turn}
 use Rattle.facet_json_reader.specs.declared.reader.Reader.{Reader}
 use Rattle.facet_json_reader.specs.Inner.Quick.{MayBeValue, Reaches, ComesNo}
-use Rattle.facet_json_reader.specs.declared.moving.Sought.{Sought}
-use Rattle.facet_json_reader.specs.declared.moving.Sought.TheVariants as sought
+use Rattle.facet_json_reader.specs.declared.sought.Sought.{Sought}
+use Rattle.facet_json_reader.specs.declared.sought.Sought.TheVariants as sought
 use Rattle.facet_json_reader.specs.Inner.Soughts.{event_of_sought, byte_of_sought}
 use Rattle.facet_json_reader.specs.Views.{coming}
 

@@ -17,6 +17,7 @@ pub mod RfcNumbersThere
 pub mod SameEnd
 pub mod ScannedTokens
 pub mod ShortNumbers
+pub mod SortsOfTokens
 pub mod StoppingTokens
 pub mod TextRuns
 pub mod TokenMeanings

@@ -1,17 +1,20 @@
 -- What the token at an offset gives where the reader reaches it.
 use Rattle.std.proofs.Common.{◌≡◌, ℕ, ◌+◌, ◌-◌, ◌≤◌, ◌<◌, Bool, true, false, List, [], ◌∷◌, Option, Some, None, length, drop, slice_get, refl, sym, ap, ap₂, ◌∙◌, arith}
-use Rattle.std.specs.Prelude.{codes, MatchOption}
+use Rattle.std.specs.Prelude.{codes, slice_range, IfSome, MatchOption}
 use Rattle.std.specs.Option.{option_map}
 use Rattle.facet_json_reader.specs.declared.reader.Reader.{Reader}
+use Rattle.facet_format.specs.declared.span.Span.{Span as RustSpan}
 use Rattle.facet_format.specs.declared.event.ContainerKind.{ContainerKind as RustContainerKind}
 use Rattle.facet_format.specs.declared.event.ContainerKind.TheVariants as containers
 use Rattle.facet_format.specs.Bytes.{lower_n, lower_t, lower_f}
 use Rattle.facet_format.specs.Bytes as mark_byte
 use Rattle.facet_format.specs.Event.{ContainerKind, EventKind, Event, Passed, Scalar, borrowed}
 use Rattle.facet_format.specs.Event as event
-use Rattle.facet_format.specs.Span.{stop, span_at}
-use Rattle.facet_format.specs.Views.{span_of}
-use Rattle.facet_format.specs.Number.{Hint}
+use Rattle.facet_format.specs.Span.{Span, stop, span_at}
+use Rattle.facet_format.specs.Views.{span_of, event_kind_of}
+use Rattle.facet_format.specs.declared.event.ParseEventKind.{ParseEventKind}
+use Rattle.facet_format.specs.Number.{Hint, float}
+use Rattle.facet_format.specs.NumberValue.{number, decimal}
 use Rattle.facet_format.specs.NumberParts.{parts, parts_len, parts_hint, is_bare}
 use Rattle.facet_json_token.specs.Gap.{Mode, plain}
 use Rattle.facet_json_token.specs.Cut.{cut_here, past_gap, common_len, token_at, punctuation, start_of, opens_number, cut_number}
@@ -25,17 +28,19 @@ use Rattle.facet_json_token.specs.Token as token
 use Rattle.facet_json_token.specs.Tokens.{Tokens, next}
 use Rattle.facet_json_document.specs.Future.{gives, Stage, within, after_value, stack_after, stage_after, turn, reads_by, reads_colon_by}
 use Rattle.facet_json_document.specs.Meaning.{meaning_of, text_in_tree as text_in}
-use Rattle.facet_json_document.specs.Place.{Place, root, before_key, after_colon, before_item, next_key, next_item, Turn, passes, says, says_scalar, names, place_turn, led}
+use Rattle.facet_json_document.specs.Place.{Place, root, after_colon, before_item, next_item, Turn, passes, says, says_scalar, names, place_turn, led}
 use Rattle.facet_json_document.specs.Tree.{Tree}
 use Rattle.facet_json_document.specs.Tree as tree
 use Rattle.facet_json_document.specs.Walk.{event_at, scalar_event, key_event, scalar_of, name_of}
 use Rattle.facet_json_document.specs.Node.{is_scalar}
 use Rattle.facet_json_document.proofs.WalkComes.{object_here, array_here, TakesValue, at_root, of_member, of_list, of_next_item, follows, reads-turn, turn-plain, turn-meant, scalar_here}
 use Rattle.facet_json_reader.proofs.TokensThere.{mark-cut, tokens_in-past_gap, word-cut}
+use Rattle.facet_json_reader.proofs.ShortNumbers.{decimal-there}
+use Rattle.facet_json_reader.specs.Inner.Short.{IsDecimalThere}
 use Rattle.facet_json_reader.proofs.TurnsAtPlaces.{is_mark, mark-plain}
 use Rattle.facet_json_reader.specs.PlaceViews.{opening_bracket, closing_bracket, opening_token, closing_token, opening_event}
 use Rattle.facet_json_reader.specs.Values.{IsPlainText, IsScalarThere}
-use Rattle.facet_json_reader.specs.Inner.Quick.{MayBeKey, MayBeValue, Reaches, IsWord, null_stands, true_stands, false_stands, Leaves, PassesQuickly}
+use Rattle.facet_json_reader.specs.Inner.Quick.{MayBeValue, Reaches, IsWord, null_stands, true_stands, false_stands, Leaves, PassesQuickly}
 use Rattle.facet_json_reader.specs.Views.{stage_of, comes_at, coming}
 
 -- The places where a value may stand.
@@ -45,12 +50,6 @@ takes_value after_colon h = of_member
 takes_value before_item h = of_list
 takes_value next_item h = of_next_item
 takes_value _ h = absurd h
-
--- Where a key may stand, a string is one.
-names_there : (place : Place) (start finish : ℕ) → MayBeKey place → place_turn place (string start finish false) ≡ names
-names_there before_key start finish h = refl
-names_there next_key start finish h = refl
-names_there _ start finish h = absurd h
 
 -- After a gap the reader reaches the offset where it ends.
 pub stands-reaches : (buffer : List ℕ) (language : Language) (r : Reader) (place : Place) (position at : ℕ) → stage_of r.stage ≡ within place →
@@ -174,60 +173,76 @@ module _ (buffer : List ℕ) (language : Language) (r : Reader) (place : Place) 
   }
 
   -- A bracket gives its event.
-  pub bracket-passes : (kind : Kind) (way : EventKind) (e : Event) (t : Reader) → Reaches buffer language r place at →
-      cut_here (gaps language) at (drop at buffer) ≡ token_at kind at 1 → place_turn place kind ≡ says way →
-      Leaves r way (span_at at 1) (span_at at 1) e t → PassesQuickly buffer language r e t
-  bracket-passes kind way e t is cuts turns left = record {
-    p = record { event = e; last = span_at at 1 };
-    rest = reads_by (rules language) buffer (stack_after way r.contexts) (stage_after way r.contexts) (tokens_in language buffer (stop (span_at at 1)));
-    comes = mark-comes is kind 1 (says way) cuts turns refl
-        ∙ ap (λ (x : Event). gives (record { event = x; last = span_at at 1 }) (reads_by (rules language) buffer (stack_after way r.contexts) (stage_after way r.contexts) (tokens_in language buffer (stop (span_at at 1))))) (sym left.event);
-    event = refl;
-    new = left.new;
-  }
+  pub bracket-passes : (kind : Kind) (way : EventKind) (s : Span) (t : Reader) → Reaches buffer language r place at →
+      cut_here (gaps language) at (drop at buffer) ≡ token_at kind at 1 → place_turn place kind ≡ says way → s ≡ span_at at 1 →
+      Leaves r way (span_at at 1) (span_at at 1) t → PassesQuickly buffer language r (record { kind = way; span = s }) t
+  bracket-passes kind way s t is cuts turns whole left =
+      rw whole (record {
+        p = record { event = record { kind = way; span = span_at at 1 }; last = span_at at 1 };
+        rest = reads_by (rules language) buffer (stack_after way r.contexts) (stage_after way r.contexts) (tokens_in language buffer (stop (span_at at 1)));
+        comes = mark-comes is kind 1 (says way) cuts turns refl;
+        event = refl;
+        new = left.new;
+      })
 
   -- A bracket that opens a container gives its event, where there is memory for it.
-  pub start-passes : {A : Type 0} (given : A → Event) (kind : RustContainerKind) (o : Option A) (t : Reader) → MayBeValue place →
-      Reaches buffer language r place at → slice_get buffer at ≡ Some (opening_bracket kind) →
-      MatchOption o (t ≡ r) (λ a. Leaves r (opening_event kind) (span_at at 1) (span_at at 1) (given a) t) →
-      MatchOption o (t ≡ r) (λ a. PassesQuickly buffer language r (given a) t)
-  start-passes given kind None t may is here left = left
-  start-passes given kind (Some a) t may is here left =
-      bracket-passes (opening_token kind) (opening_event kind) (given a) t is (opening-cut (gaps language) buffer at kind here) (opens-here place kind may) left
+  pub start-passes : (kind : RustContainerKind) (o : Option RustSpan) (t : Reader) → MayBeValue place → Reaches buffer language r place at →
+      slice_get buffer at ≡ Some (opening_bracket kind) → IfSome o (λ s. span_of s ≡ span_at at 1) →
+      MatchOption o (t ≡ r) (λ s. Leaves r (opening_event kind) (span_at at 1) (span_at at 1) t) →
+      MatchOption o (t ≡ r) (λ s. PassesQuickly buffer language r (record { kind = opening_event kind; span = span_of s }) t)
+  start-passes kind None t may is here whole left = left
+  start-passes kind (Some s) t may is here whole left =
+      bracket-passes (opening_token kind) (opening_event kind) (span_of s) t is (opening-cut (gaps language) buffer at kind here) (opens-here place kind may) whole left
 
   -- A scalar gives its event.
-  pub scalar-passes : (len : ℕ) (value : Scalar) (e : Event) (t : Reader) → MayBeValue place → Reaches buffer language r place at →
+  pub scalar-passes : (len : ℕ) (value : Scalar) (s : Span) (t : Reader) → MayBeValue place → Reaches buffer language r place at → s ≡ span_at at len →
       (there : IsScalarThere buffer at len value) → Allows language buffer (record { kind = there.kind; span = span_at at len }) →
-      Leaves r (event.scalar value) (span_at at len) (span_at at len) e t → PassesQuickly buffer language r e t
-  scalar-passes len value e t here is there allowed left =
+      Leaves r (event.scalar value) s s t → PassesQuickly buffer language r (record { kind = event.scalar value; span = s }) t
+  scalar-passes len value s t here is same there allowed left =
       let whole : Token = record { kind = there.kind; span = span_at at len } in
       let rest = tokens_in language buffer (stop (span_at at len)) in
       let way = turn-meant buffer place whole there.meant there.means ∙ scalar_here buffer place there.kind (takes_value place here) there.scalar in
       let after = reads_by (rules language) buffer r.contexts (after_value r.contexts) rest in
-      let read : scalar_event buffer whole ≡ record { event = e; last = span_at at len } =
+      let read : scalar_event buffer whole ≡ record { event = record { kind = event.scalar value; span = span_at at len }; last = span_at at len } =
       ap (λ (m : Option Tree). event_at (event.scalar (scalar_of there.kind m)) whole) there.means
-      ∙ ap (λ (v : Scalar). event_at (event.scalar v) whole) (sym there.read)
-      ∙ ap (λ (x : Event). record { event = x; last = span_at at len }) (sym left.event) in
-      record {
-        p = record { event = e; last = span_at at len };
+      ∙ ap (λ (v : Scalar). event_at (event.scalar v) whole) (sym there.read) in
+      let passed = rw same at left in
+      rw same (record {
+        p = record { event = record { kind = event.scalar value; span = span_at at len }; last = span_at at len };
         rest = after;
         comes = turn-comes is there.kind len says_scalar allowed (there.cut (gaps language)) way ∙ ap (λ (p : Passed). gives p after) read;
         event = refl;
-        new = left.new;
-      }
+        new = passed.new;
+      })
+
+  -- A decimal gives its event, where it has a value.
+  pub decimal-passes : (len : ℕ) (o : Option (ParseEventKind × RustSpan)) (t : Reader) → MayBeValue place → Reaches buffer language r place at →
+      IsDecimalThere buffer at len → Allows language buffer (record { kind = token.number at (at + len) float; span = span_at at len }) →
+      (let text = slice_range buffer at (at + len) in IfSome o (λ x. event_kind_of x.0 ≡ event.scalar (event.decimal (borrowed text)))) →
+      IfSome o (λ x. span_of x.1 ≡ span_at at len) →
+      (let text = slice_range buffer at (at + len) in IfSome o (λ x. number text float ≡ Some (decimal text))) →
+      MatchOption o (t ≡ r) (λ x. Leaves r (event.scalar (event.decimal (borrowed (slice_range buffer at (at + len))))) (span_at at len) (span_at at len) t) →
+      MatchOption o (t ≡ r) (λ x. PassesQuickly buffer language r (record { kind = event_kind_of x.0; span = span_of x.1 }) t)
+  unfolding decimal-there
+  decimal-passes len None t may is there allowed kind span means left = left
+  decimal-passes len (Some x) t may is there allowed kind span means left =
+      rw (kind, span) (scalar-passes len (event.decimal (borrowed (slice_range buffer at (at + len)))) (span_at at len) t may is refl
+      (decimal-there buffer at len there means) allowed left)
 
   -- A key and its colon give their event.
-  pub key-passes : (finish mark : ℕ) (name : List ℕ) (e : Event) (t : Reader) → MayBeKey place →
+  pub key-passes : (finish mark : ℕ) (name : List ℕ) (s : Span) (t : Reader) →
+      place_turn place (string (at + 1) finish false) ≡ names → s ≡ span_at at ((finish + 1) - at) →
       Allows language buffer (record { kind = string (at + 1) finish false; span = span_at at ((finish + 1) - at) }) → Reaches buffer language r place at →
       (text : IsPlainText buffer at finish name) → at < finish → finish < length buffer → mark ≡ past_gap buffer (finish + 1) (gaps language) →
       slice_get buffer mark ≡ Some mark_byte.colon →
-      Leaves r (event.field_key (borrowed name)) (span_at at ((finish + 1) - at)) (span_at mark 1) e t → PassesQuickly buffer language r e t
-  key-passes finish mark name e t key allowed is text some room gap here left =
+      Leaves r (event.field_key (borrowed name)) (span_at at ((finish + 1) - at)) (span_at mark 1) t →
+      PassesQuickly buffer language r (record { kind = event.field_key (borrowed name); span = s }) t
+  key-passes finish mark name s t key long allowed is text some room gap here left =
       let kind = string (at + 1) finish false in
       let len = (finish + 1) - at in
       let whole : Token = record { kind = kind; span = span_at at len } in
       let meant : meaning_of buffer kind ≡ Some (tree.text name) = ap (option_map tree.text) text.means in
-      let way : turn buffer place whole ≡ names = turn-meant buffer place whole (tree.text name) meant ∙ names_there place (at + 1) finish key in
+      let way : turn buffer place whole ≡ names = turn-meant buffer place whole (tree.text name) meant ∙ key in
       let ends : stop (span_at at len) ≡ finish + 1 = omega arith in
       let last : Token = record { kind = colon; span = span_at mark 1 } in
       let colons : tokens_in language buffer (stop (span_at at len)) ≡ next last (tokens_in language buffer (stop (span_at mark 1))) =
@@ -235,14 +250,13 @@ module _ (buffer : List ℕ) (language : Language) (r : Reader) (place : Place) 
       ∙ tokens_in-past_gap language buffer (finish + 1) mark 1 colon (omega arith) gap (mark-cut (gaps language) buffer mark mark_byte.colon colon here colon_begins)
       (allowed-plain language buffer last refl) in
       let after = reads_by (rules language) buffer r.contexts (within after_colon) (tokens_in language buffer (stop (span_at mark 1))) in
-      let read : key_event buffer whole last ≡ record { event = e; last = span_at mark 1 } =
-      ap (λ (m : Option Tree). key_of whole last m) meant
-      ∙ ap (λ (x : Event). record { event = x; last = span_at mark 1 }) (sym left.event) in
-      record {
-        p = record { event = e; last = span_at mark 1 };
+      let read : key_event buffer whole last ≡ record { event = record { kind = event.field_key (borrowed name); span = span_at at len }; last = span_at mark 1 } =
+      ap (λ (m : Option Tree). key_of whole last m) meant in
+      rw long (record {
+        p = record { event = record { kind = event.field_key (borrowed name); span = span_at at len }; last = span_at mark 1 };
         rest = after;
         comes = turn-comes is kind len names allowed (text.cut (gaps language)) way ∙ reads_colon-there language buffer r.contexts whole last _ _ colons refl
             ∙ ap (λ (p : Passed). gives p after) read;
         event = refl;
         new = left.new;
-      }
+      })

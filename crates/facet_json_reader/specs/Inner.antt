@@ -2,6 +2,7 @@
 pub mod Digits
 pub mod Quick
 pub mod Short
+pub mod Sorts
 pub mod Soughts
 pub mod Whole
 pub mod Window

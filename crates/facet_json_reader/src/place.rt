@@ -4,6 +4,7 @@ ghost use Rattle.std.specs.Prelude.{◌≡◌, true, Some};
 ghost use Rattle.facet_json_token.specs.Token.{Kind};
 ghost use Rattle.facet_json_token.specs.Views.{kind_of};
 ghost use Rattle.facet_json_document.specs.Place.{root, after_colon, before_key, after_member, before_item, after_item, next_key, next_item, complaint_at_end, expected_at};
+ghost use Rattle.facet_json_reader.specs.Inner.Sorts.{kind_by, sort_by};
 ghost use Rattle.facet_json_reader.specs.PlaceViews.{place_of, turn_of, turn_by, expected_text, why_of, is_string_token};
 
 use crate::refusal::{Expected, Why};
@@ -87,33 +88,81 @@ impl Place {
         ensures turn { turn_of result ≡ turn_by (place_of self) (kind_of token.now) }
         ensures names { result ≡ Turn.Names → is_string_token token.now ≡ true }
     {
+        self.turn_by(sort_of(token))
+    }
+
+    /// What follows from a token of this sort at this place.
+    #[inline(always)]
+    pub(crate) fn turn_by(self, sort: Sort) -> Turn
+        ensures turn { turn_of result ≡ turn_by (place_of self) (kind_by sort) }
+        ensures names { result ≡ Turn.Names → sort ≡ Sort.Text }
+    {
         match self {
-            Place::Root | Place::AfterColon | Place::NextItem => value_turn(token),
-            Place::BeforeKey => match token {
-                Token::ObjectEnd => Turn::Closes(ContainerKind::Object),
-                Token::String { .. } => Turn::Names,
+            Place::Root | Place::AfterColon | Place::NextItem => value_turn(sort),
+            Place::BeforeKey => match sort {
+                Sort::ObjectEnd => Turn::Closes(ContainerKind::Object),
+                Sort::Text => Turn::Names,
                 _ => Turn::Stops,
             },
-            Place::NextKey => match token {
-                Token::String { .. } => Turn::Names,
+            Place::NextKey => match sort {
+                Sort::Text => Turn::Names,
                 _ => Turn::Stops,
             },
-            Place::AfterMember => match token {
-                Token::Comma => Turn::Passes(Place::BeforeKey),
-                Token::ObjectEnd => Turn::Closes(ContainerKind::Object),
+            Place::AfterMember => match sort {
+                Sort::Comma => Turn::Passes(Place::BeforeKey),
+                Sort::ObjectEnd => Turn::Closes(ContainerKind::Object),
                 _ => Turn::Stops,
             },
-            Place::BeforeItem => match token {
-                Token::ArrayEnd => Turn::Closes(ContainerKind::Array),
-                token => value_turn(token),
+            Place::BeforeItem => match sort {
+                Sort::ArrayEnd => Turn::Closes(ContainerKind::Array),
+                sort => value_turn(sort),
             },
-            Place::AfterItem => match token {
-                Token::Comma => Turn::Passes(Place::BeforeItem),
-                Token::ArrayEnd => Turn::Closes(ContainerKind::Array),
+            Place::AfterItem => match sort {
+                Sort::Comma => Turn::Passes(Place::BeforeItem),
+                Sort::ArrayEnd => Turn::Closes(ContainerKind::Array),
                 _ => Turn::Stops,
             },
             Place::AfterRoot => Turn::Stops,
         }
+    }
+}
+
+/// What a token is to a place, as its first byte tells.
+#[derive(Clone, Copy)]
+pub enum Sort {
+    /// `{`
+    ObjectStart,
+    /// `}`
+    ObjectEnd,
+    /// `[`
+    ArrayStart,
+    /// `]`
+    ArrayEnd,
+    /// `,`
+    Comma,
+    /// A string.
+    Text,
+    /// A number or a literal.
+    Scalar,
+    /// A colon, or the end of the input.
+    Other,
+}
+
+/// The sort of a token.
+#[inline(always)]
+fn sort_of(token: &Token) -> Sort
+    ensures sort { result ≡ sort_by (kind_of token.now) }
+    ensures text { result ≡ Sort.Text → is_string_token token.now ≡ true }
+{
+    match token {
+        Token::ObjectStart => Sort::ObjectStart,
+        Token::ObjectEnd => Sort::ObjectEnd,
+        Token::ArrayStart => Sort::ArrayStart,
+        Token::ArrayEnd => Sort::ArrayEnd,
+        Token::Comma => Sort::Comma,
+        Token::String { .. } => Sort::Text,
+        Token::Null | Token::True | Token::False | Token::Number { .. } => Sort::Scalar,
+        Token::Colon | Token::Eof | Token::NeedMore { .. } => Sort::Other,
     }
 }
 
@@ -128,21 +177,18 @@ fn expected_item(token: &Token) -> Expected
     }
 }
 
-/// The turn of a token where a value may stand.
-fn value_turn(token: &Token) -> Turn
-    ensures root { turn_of result ≡ turn_by root (kind_of token.now) }
-    ensures colon { turn_of result ≡ turn_by after_colon (kind_of token.now) }
-    ensures item { turn_of result ≡ turn_by next_item (kind_of token.now) }
-    ensures names { result ≡ Turn.Names → is_string_token token.now ≡ true }
+/// The turn of a token of this sort where a value may stand.
+#[inline(always)]
+fn value_turn(sort: Sort) -> Turn
+    ensures root { turn_of result ≡ turn_by root (kind_by sort) }
+    ensures colon { turn_of result ≡ turn_by after_colon (kind_by sort) }
+    ensures item { turn_of result ≡ turn_by next_item (kind_by sort) }
+    ensures names { result ≡ Turn.Names → sort ≡ Sort.Text }
 {
-    match token {
-        Token::ObjectStart => Turn::Opens(ContainerKind::Object),
-        Token::ArrayStart => Turn::Opens(ContainerKind::Array),
-        Token::Null => Turn::Scalar,
-        Token::True => Turn::Scalar,
-        Token::False => Turn::Scalar,
-        Token::String { .. } => Turn::Scalar,
-        Token::Number { .. } => Turn::Scalar,
+    match sort {
+        Sort::ObjectStart => Turn::Opens(ContainerKind::Object),
+        Sort::ArrayStart => Turn::Opens(ContainerKind::Array),
+        Sort::Text | Sort::Scalar => Turn::Scalar,
         _ => Turn::Stops,
     }
 }

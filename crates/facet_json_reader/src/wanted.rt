@@ -9,7 +9,7 @@ ghost use Rattle.facet_json_reader.specs.Inner.Quick.{PassesQuickly};
 
 use crate::language::Language;
 use crate::number::{Whole, short_decimal_in, short_whole_in};
-use crate::reader::{Reader, Stage};
+use crate::reader::Reader;
 use crate::text::text_at;
 use facet_format::{ContainerKind, Decimal, Span};
 use facet_json_token::Trust;
@@ -74,11 +74,11 @@ impl<'de> Wanted<'de> for bool {
         let (at, first) = reader.value_start(input, language)?;
         match first {
             b't' => {
-                let span = reader.move_past_word(input, at, b"true")?;
+                let span = reader.pass_word(input, at, b"true")?;
                 Some((true, span))
             }
             b'f' => {
-                let span = reader.move_past_word(input, at, b"false")?;
+                let span = reader.pass_word(input, at, b"false")?;
                 Some((false, span))
             }
             _ => None,
@@ -159,7 +159,7 @@ impl<'de> Wanted<'de> for Null {
         if first != b'n' {
             return None;
         }
-        let span = reader.move_past_word(input, at, b"null")?;
+        let span = reader.pass_word(input, at, b"null")?;
         Some((Null, span))
     }
 }
@@ -180,14 +180,11 @@ impl<'de> Wanted<'de> for ListEnd {
         language: Language,
         _trust: Trust,
     ) -> Option<(ListEnd, Span)> {
-        let Stage::Within(place) = reader.stage else {
-            return None;
-        };
-        let (place, at) = reader.past_separators(input, language, place);
-        if *input.get(at)? != b']' {
+        let ahead = reader.ahead(input, language)?;
+        if ahead.first != b']' {
             return None;
         }
-        let span = reader.move_past_closing(ContainerKind::Array, place, at)?;
+        let span = reader.pass_closing(ContainerKind::Array, ahead)?;
         Some((ListEnd, span))
     }
 }
@@ -255,17 +252,18 @@ impl<'de> Wanted<'de> for Member<'de> {
         language: Language,
         trust: Trust,
     ) -> Option<(Member<'de>, Span)> {
-        let Stage::Within(place) = reader.stage else {
-            return None;
-        };
-        let (place, at) = reader.past_separators(input, language, place);
-        match *input.get(at)? {
+        let ahead = reader.ahead(input, language)?;
+        match ahead.first {
             b'"' => {
-                let (name, span) = reader.move_past_key(input, language, trust, place, at)?;
+                if !ahead.is_key() {
+                    return None;
+                }
+                let (end, name) = text_at(input, language, trust, ahead.at)?;
+                let span = reader.pass_key(input, language, ahead.at, end)?;
                 Some((Member::Key(name), span))
             }
             b'}' => {
-                let span = reader.move_past_closing(ContainerKind::Object, place, at)?;
+                let span = reader.pass_closing(ContainerKind::Object, ahead)?;
                 Some((Member::End, span))
             }
             _ => None,

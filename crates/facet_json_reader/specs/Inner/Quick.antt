@@ -9,7 +9,7 @@ use Rattle.facet_json_token.specs.Cut.{past_gap}
 use Rattle.facet_json_document.specs.Future.{Future, gives, within}
 use Rattle.facet_json_document.specs.Language.{Language, gaps}
 use Rattle.facet_json_document.specs.Reader.{past}
-use Rattle.facet_json_document.specs.Place.{Place, root, after_colon, before_item, before_key, next_item, next_key}
+use Rattle.facet_json_document.specs.Place.{Place, root, after_colon, before_item, next_item}
 use Rattle.facet_json_reader.specs.Views.{reader_of, comes_at, coming}
 
 -- The places where a value may stand.
@@ -27,22 +27,15 @@ pub record Reaches (buffer : List ℕ) (language : Language) (r : Reader) (place
   pub gap : at ≡ past_gap buffer from (gaps language)
   pub comes : comes_at buffer language r.contexts (within place) from ≡ coming buffer language r
 
--- The places where a key may stand.
-abbrev pub MayBeKey : Place → Type 0
-MayBeKey before_key = Unit {0}
-MayBeKey next_key = Unit {0}
-MayBeKey _ = ⊥
-
 -- This byte begins the literal of these letters, which is read as this value.
 pub data IsWord : ℕ → List ℕ → Scalar → Type 0 where
   null_stands : IsWord lower_n (codes "null") event.null
   true_stands : IsWord lower_t (codes "true") (event.bool true)
   false_stands : IsWord lower_f (codes "false") (event.bool false)
 
--- An event of this kind is given, and the reader stands after it.
-pub record Leaves (r : Reader) (kind : EventKind) (s last : Span) (e : Event) (t : Reader) : Type 0 where
-  pub event : e ≡ record { kind = kind; span = s }
-  pub new : reader_of t ≡ past (record { event = e; last = last }) (reader_of r)
+-- The reader stands after an event of this kind, which takes these bytes, and whose last token takes those.
+pub record Leaves (r : Reader) (kind : EventKind) (s last : Span) (t : Reader) : Type 0 where
+  pub new : reader_of t ≡ past (record { event = record { kind = kind; span = s }; last = last }) (reader_of r)
 
 -- The event came next where the reader stood, and it stands after it.
 pub record PassesQuickly (buffer : List ℕ) (language : Language) (r : Reader) (e : Event) (t : Reader) : Type 0 where

@@ -4,8 +4,8 @@ use Rattle.facet_format.specs.Bytes.{right_bracket, lower_n}
 use Rattle.facet_format.specs.Event.{EventKind, sequence_end, struct_end, field_key, borrowed, scalar, null}
 use Rattle.facet_json_reader.specs.declared.wanted.Member.{Member}
 use Rattle.facet_json_reader.specs.declared.wanted.Member.TheVariants as member
-use Rattle.facet_json_reader.specs.declared.moving.Sought.{Sought}
-use Rattle.facet_json_reader.specs.declared.moving.Sought.TheVariants as sought
+use Rattle.facet_json_reader.specs.declared.sought.Sought.{Sought}
+use Rattle.facet_json_reader.specs.declared.sought.Sought.TheVariants as sought
 
 -- its event
 abbrev pub event_of_sought : Sought → EventKind

@@ -28,5 +28,5 @@ returns-in_ok-span-in-102 c =
     let at = c.in_ok-at.ensures in
     c.in_ok-span-in-102.ensures (language_of c.args.language) at.reaches.0 byte.lower_f _ false_stands (at.here ∙ ap Some c.in-102.is) at.reaches.1 at.reaches.2
 
-pub move_past_word-requires-in-102 : goal.move_past_word-requires-in-102
-move_past_word-requires-in-102 c = omega (arith, slice_get_within c.args.input.now c.in_ok-at.at c.in_ok-at.first c.in_ok-at.ensures.here)
+pub pass_word-requires-in-102 : goal.pass_word-requires-in-102
+pass_word-requires-in-102 c = omega (arith, slice_get_within c.args.input.now c.in_ok-at.at c.in_ok-at.first c.in_ok-at.ensures.here)

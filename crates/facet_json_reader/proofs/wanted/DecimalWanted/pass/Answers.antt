@@ -1,5 +1,5 @@
 -- Where a value may stand a number gives its event.
-use Rattle.std.proofs.Common.{arith}
+use Rattle.std.proofs.Common.{refl, arith}
 use Rattle.facet_format.specs.Event.{decimal}
 use Rattle.facet_json_token.proofs.FirstBytes.{start_of-number_range}
 use Rattle.facet_json_reader.specs.PlaceViews.{language_of}
@@ -16,5 +16,5 @@ returns-in_ok-len-in-45 c =
     let n = c.in_ok-len-in-45 in
     let value = decimal n.decimal in
     rw (c.new-span.ensures.offset, c.new-span.ensures.len)
-    (scalar-passes c.args.input.now (language_of c.args.language) c.args.reader.now r.0 c.in_ok-at.at n.len value _ c.move_past.new.self r.1 r.2 n.ensures.0 n.ensures.1
+    (scalar-passes c.args.input.now (language_of c.args.language) c.args.reader.now r.0 c.in_ok-at.at n.len value _ c.move_past.new.self r.1 r.2 refl n.ensures.0 n.ensures.1
     (rw (c.new-span.ensures.offset, c.new-span.ensures.len) at c.move_past.ensures value))

@@ -1,5 +1,5 @@
 -- Where a value may stand a string is a text, and gives its event.
-use Rattle.std.proofs.Common.{false, ◌+◌}
+use Rattle.std.proofs.Common.{false, ◌+◌, refl}
 use Rattle.facet_format.specs.Event.{text, borrowed}
 use Rattle.facet_json_reader.specs.PlaceViews.{language_of}
 use Rattle.facet_json_reader.proofs.ValuesThere.{text-there, text_there-kind}
@@ -18,5 +18,5 @@ returns c =
     let is = text_there-kind input at t.end t.text.now t.ensures.text in
     let value = text (borrowed t.text.now) in
     rw (c.new-span.ensures.offset, c.new-span.ensures.len)
-    (scalar-passes input language c.args.reader.now r.0 at _ value _ c.move_past.new.self r.1 r.2 there
+    (scalar-passes input language c.args.reader.now r.0 at _ value _ c.move_past.new.self r.1 r.2 refl there
     (rw is (unescaped-allowed language input (at + 1) t.end t.ensures.unescaped _ false)) (rw (c.new-span.ensures.offset, c.new-span.ensures.len) at c.move_past.ensures value))

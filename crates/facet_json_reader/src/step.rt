@@ -1,0 +1,278 @@
+//! One step of the reader, where a few bytes decide it: where the next token begins, and each way past it. Where they do not decide, nothing changes,
+//! and the tokens decide, in `reader`.
+
+ghost use Rattle.std.specs.Prelude.{◌≡◌, ◌≤◌, ◌<◌, ◌+◌, ℕ, List, Some, false, true, length, slice_get, slice_range, IfSome, MatchOption};
+ghost use Rattle.facet_format.specs.Event.{Scalar, Text, scalar, field_key, borrowed};
+ghost use Rattle.facet_format.specs.Span.{Span as SpecSpan, stop, span_at};
+ghost use Rattle.facet_format.specs.Views.{span_of};
+ghost use Rattle.facet_json_token.specs.Token.{string};
+ghost use Rattle.facet_json_document.specs.Language.{Language as SpecLanguage};
+ghost use Rattle.facet_json_document.specs.Place.{Place as SpecPlace, names, place_turn};
+ghost use Rattle.facet_json_reader.specs.PlaceViews.{language_of, least_of, place_of, opening_event, closing_event, closing_token, opening_bracket, closing_bracket};
+ghost use Rattle.facet_json_reader.specs.Values.{AreUnescaped, IsPlainText};
+ghost use Rattle.facet_json_reader.specs.Inner.Quick.{MayBeValue, Reaches, IsWord, Leaves, PassesQuickly};
+ghost use Rattle.facet_json_reader.specs.Inner.Sorts.{kind_by};
+
+use crate::language::Language;
+use crate::place::{Place, Sort, Turn};
+use crate::reader::{Reader, Stage};
+use facet_format::{ContainerKind, Span};
+use facet_json_token::cutting::common_len;
+use facet_json_token::quick::{empty_gap_end, gap_end};
+
+/// Where the next token begins that is no separator.
+#[derive(Clone, Copy)]
+pub(crate) struct Ahead {
+    /// The place before it.
+    pub(crate) place: Place,
+    /// Its offset.
+    pub(crate) at: usize,
+    /// Its first byte.
+    pub(crate) first: u8,
+}
+
+impl Ahead {
+    /// Whether a value may stand there.
+    #[inline(always)]
+    pub(crate) fn is_value(self) -> bool
+        ensures { result ≡ true → MayBeValue (place_of self.place) }
+    {
+        match self.place.turn_by(Sort::Scalar) {
+            Turn::Scalar => true,
+            _ => false,
+        }
+    }
+
+    /// Whether a key may stand there.
+    #[inline(always)]
+    pub(crate) fn is_key(self) -> bool
+        ensures { result ≡ true → (start finish : ℕ) → place_turn (place_of self.place) (string start finish false) ≡ names }
+    {
+        match self.place.turn_by(Sort::Text) {
+            Turn::Names => true,
+            _ => false,
+        }
+    }
+}
+
+impl Reader {
+    /// Where the next token begins that is no separator, unless the document or the input ends or a comma stands wrong.
+    #[inline(always)]
+    pub(crate) fn ahead(&self, input: &[u8], language: Language) -> Option<Ahead>
+        requires within { stop (span_of self.now.last) ≤ length input.now }
+        ensures reaches { IfSome result (λ a. Reaches input.now (language_of language) self.now (place_of a.place) a.at) }
+        ensures here { IfSome result (λ a. slice_get input.now a.at ≡ Some a.first) }
+    {
+        let Stage::Within(place) = self.stage else {
+            return None;
+        };
+        let mode = language.mode();
+        let at = gap_end(input, self.last.end(), mode);
+        let first = *input.get(at)?;
+        if first != b',' {
+            return Some(Ahead { place, at, first });
+        }
+        let Turn::Passes(next) = place.turn_by(Sort::Comma) else {
+            return None;
+        };
+        let to = empty_gap_end(input, at + 1, mode);
+        let first = *input.get(to)?;
+        Some(Ahead {
+            place: language.led(next),
+            at: to,
+            first,
+        })
+    }
+
+    /// Where the next value begins and its first byte, where a value may stand.
+    #[inline(always)]
+    pub(crate) fn value_start(&self, input: &[u8], language: Language) -> Option<(usize, u8)>
+        requires within { stop (span_of self.now.last) ≤ length input.now }
+        ensures reaches { IfSome result (λ r. (place : SpecPlace) × MayBeValue place × Reaches input.now (language_of language) self.now place r.0) }
+        ensures here { IfSome result (λ r. slice_get input.now r.0 ≡ Some r.1) }
+    {
+        let ahead = self.ahead(input, language)?;
+        if !ahead.is_value() {
+            return None;
+        }
+        Some((ahead.at, ahead.first))
+    }
+
+    /// Passes the literal of these letters.
+    #[inline(always)]
+    pub(crate) fn pass_word(&mut self, input: &[u8], at: usize, word: &[u8]) -> Option<Span>
+        requires { at ≤ length input.now }
+        ensures { (language : SpecLanguage) (place : SpecPlace) (first : ℕ) (value : Scalar) → IsWord first word.now value
+            → slice_get input.now at ≡ Some first → MayBeValue place → Reaches input.now language self.old place at
+            → MatchOption result (self.new ≡ self.old)
+            (λ s. PassesQuickly input.now language self.old (record { kind = scalar value; span = span_of s }) self.new) }
+    {
+        let len = word.len();
+        if common_len(input, at, word) == len {
+            let span = Span::new(at, len);
+            self.move_past(span);
+            Some(span)
+        } else {
+            None
+        }
+    }
+
+    /// Passes the bracket that closes a container of this kind, where one stands.
+    #[inline(always)]
+    pub(crate) fn pass_closing(&mut self, kind: ContainerKind, ahead: Ahead) -> Option<Span>
+        ensures { (buffer : List ℕ) (language : SpecLanguage) → slice_get buffer ahead.at ≡ Some (closing_bracket kind)
+            → Reaches buffer language self.old (place_of ahead.place) ahead.at → MatchOption result (self.new ≡ self.old)
+            (λ s. PassesQuickly buffer language self.old (record { kind = closing_event kind; span = span_of s }) self.new) }
+    {
+        match ahead.place.turn_by(closing_sort(kind)) {
+            Turn::Closes(_) => Some(self.move_past_end(kind, ahead.at)),
+            _ => None,
+        }
+    }
+
+    /// Passes the bracket that opens a container of this kind, where a value may stand and it does.
+    #[inline(always)]
+    pub(crate) fn open_value(
+        &mut self,
+        input: &[u8],
+        language: Language,
+        kind: ContainerKind,
+    ) -> Option<Span>
+        requires within { stop (span_of self.old.last) ≤ length input.now }
+        ensures { MatchOption result (self.new ≡ self.old)
+            (λ s. PassesQuickly input.now (language_of language) self.old (record { kind = opening_event kind; span = span_of s }) self.new) }
+    {
+        let (at, first) = self.value_start(input, language)?;
+        if first != first_byte(kind) {
+            return None;
+        }
+        self.pass_opening(kind, at)
+    }
+
+    /// Passes the bracket that opens a container of this kind, which stands there, where there is memory for it.
+    #[inline(always)]
+    pub(crate) fn pass_opening(&mut self, kind: ContainerKind, at: usize) -> Option<Span>
+        ensures { (buffer : List ℕ) (language : SpecLanguage) (place : SpecPlace) → MayBeValue place
+            → slice_get buffer at ≡ Some (opening_bracket kind) → Reaches buffer language self.old place at → MatchOption result (self.new ≡ self.old)
+            (λ s. PassesQuickly buffer language self.old (record { kind = opening_event kind; span = span_of s }) self.new) }
+    {
+        self.move_past_start(kind, at)
+    }
+
+    /// Passes a key whose quotes stand there and at `end`, and its colon.
+    #[inline(always)]
+    pub(crate) fn pass_key(
+        &mut self,
+        input: &[u8],
+        language: Language,
+        at: usize,
+        end: usize,
+    ) -> Option<Span>
+        requires within { (at < end) × (end < length input.now) }
+        requires unescaped { AreUnescaped (least_of (language_of language)) (slice_range input.now (at + 1) end) }
+        ensures { (place : SpecPlace) (name : List ℕ) → place_turn place (string (at + 1) end false) ≡ names → IsPlainText input.now at end name
+            → Reaches input.now (language_of language) self.old place at → MatchOption result (self.new ≡ self.old)
+            (λ s. PassesQuickly input.now (language_of language) self.old (record { kind = field_key (borrowed name); span = span_of s }) self.new) }
+    {
+        let colon = empty_gap_end(input, end + 1, language.mode());
+        match input.get(colon) {
+            Some(b':') => {
+                self.move_past_name(colon);
+                Some(Span::new(at, end + 1 - at))
+            }
+            _ => None,
+        }
+    }
+
+    /// Moves past a bracket that closes a container.
+    #[inline(always)]
+    fn move_past_end(&mut self, _kind: ContainerKind, at: usize) -> Span
+        ensures span { span_of result ≡ span_at at 1 }
+        ensures leaves { Leaves self.old (closing_event _kind) (span_at at 1) (span_at at 1) self.new }
+    {
+        self.close();
+        self.last = Span::new(at, 1);
+        self.last
+    }
+
+    /// Moves past a bracket that opens a container, where there is memory for it.
+    #[inline(always)]
+    fn move_past_start(&mut self, kind: ContainerKind, at: usize) -> Option<Span>
+        ensures span { IfSome result (λ s. span_of s ≡ span_at at 1) }
+        ensures leaves { MatchOption result (self.new ≡ self.old)
+            (λ _. Leaves self.old (opening_event kind) (span_at at 1) (span_at at 1) self.new) }
+    {
+        match self.contexts.push(kind) {
+            Ok(()) => {
+                self.stage = Stage::inside(kind);
+                self.last = Span::new(at, 1);
+                Some(self.last)
+            }
+            Err(_) => None,
+        }
+    }
+
+    /// Moves past a key and its colon.
+    #[inline(always)]
+    fn move_past_name(&mut self, colon: usize)
+        ensures { (name : Text) (s : SpecSpan) → Leaves self.old (field_key name) s (span_at colon 1) self.new }
+    {
+        self.stage = Stage::Within(Place::AfterColon);
+        self.last = Span::new(colon, 1);
+    }
+
+    /// Moves past a scalar that takes these bytes.
+    #[inline(always)]
+    pub(crate) fn move_past(&mut self, span: Span)
+        ensures { (value : Scalar) → Leaves self.old (scalar value) (span_of span) (span_of span) self.new }
+    {
+        self.stage = Stage::after_value(&self.contexts);
+        self.last = span;
+    }
+}
+
+/// The kind of container that a byte opens.
+#[inline(always)]
+pub(crate) fn opening_kind(byte: u8) -> Option<ContainerKind>
+    ensures { IfSome result (λ kind. byte ≡ opening_bracket kind) }
+{
+    match byte {
+        b'{' => Some(ContainerKind::Object),
+        b'[' => Some(ContainerKind::Array),
+        _ => None,
+    }
+}
+
+/// The kind of container that a byte closes.
+#[inline(always)]
+pub(crate) fn closing_kind(byte: u8) -> Option<ContainerKind>
+    ensures { IfSome result (λ kind. byte ≡ closing_bracket kind) }
+{
+    match byte {
+        b'}' => Some(ContainerKind::Object),
+        b']' => Some(ContainerKind::Array),
+        _ => None,
+    }
+}
+
+/// The bracket that opens a container of this kind.
+#[inline(always)]
+fn first_byte(kind: ContainerKind) -> u8
+    ensures { result ≡ opening_bracket kind }
+{
+    match kind {
+        ContainerKind::Object => b'{',
+        ContainerKind::Array => b'[',
+    }
+}
+
+/// The sort of the bracket that closes a container of this kind.
+#[inline(always)]
+fn closing_sort(kind: ContainerKind) -> Sort
+    ensures { kind_by result ≡ Some (closing_token kind) }
+{
+    match kind {
+        ContainerKind::Object => Sort::ObjectEnd,
+        ContainerKind::Array => Sort::ArrayEnd,
+    }
+}
