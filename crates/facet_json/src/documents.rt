@@ -15,7 +15,8 @@ use std::alloc::Global;
 use std::marker::{Model, PhantomData};
 
 /// An iterator over the documents that stand one after another in an input, with gaps between them (RFC 8259, section 2): each is read as
-/// `from_slice_prefix` reads it, and is a value or a refusal. A refusal ends the iteration; its span counts from the start of the whole input.
+/// `from_slice_prefix` reads it, and is a value or a refusal. A refusal ends the iteration; its span counts from the start of the whole
+/// input.
 ///
 /// ```text
 /// let mut numbers = Documents::<u8>::new(alloc, b"1 2\n[");

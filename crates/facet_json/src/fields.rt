@@ -74,7 +74,8 @@ pub trait Fields<'de>: Sized + Drop {
         parser: &mut JsonParser<'de>,
         borrows: bool,
     ) -> Result<(), DeserializeError<'t>>
-        ensures read { OnOk result (IsRead (step borrows (keys names.now) key.now (seen slots.old)) parser.old (seen slots.new) parser.new) }
+        ensures read { OnOk result
+            (IsRead (step borrows (keys names.now) key.now (seen slots.old)) parser.old (seen slots.new) parser.new) }
         ensures unread { IfErr result (λ e. IsUnread (step borrows (keys names.now) key.now (seen slots.old)) parser.old (refusal_of e)) }
         ensures keeps { KeepsOn parser.old parser.new }
         ensures one_value { IsAfterKey parser.old → OnOk result (PassesValue parser.old parser.new) }
@@ -276,10 +277,12 @@ fn put_first<'t, 'de, T: Facet<'de>, R: Fields<'de>>(
     borrows: bool,
 ) -> Result<(), DeserializeError<'t>>
     ensures read { OnOk result (IsRead
-        (field_step (cond borrows T.shape.reading_borrowed T.shape.reading) (R.step borrows) (keys names.now) key.now (option_map T.view slots.old.0, R.seen slots.old.1))
+        (field_step (cond borrows T.shape.reading_borrowed T.shape.reading) (R.step borrows) (keys names.now) key.now
+        (option_map T.view slots.old.0, R.seen slots.old.1))
         parser.old (option_map T.view slots.new.0, R.seen slots.new.1) parser.new) }
     ensures unread { IfErr result (λ e. IsUnread
-        (field_step (cond borrows T.shape.reading_borrowed T.shape.reading) (R.step borrows) (keys names.now) key.now (option_map T.view slots.old.0, R.seen slots.old.1))
+        (field_step (cond borrows T.shape.reading_borrowed T.shape.reading) (R.step borrows) (keys names.now) key.now
+        (option_map T.view slots.old.0, R.seen slots.old.1))
         parser.old (refusal_of e)) }
     ensures keeps { KeepsOn parser.old parser.new }
     ensures one_value { IsAfterKey parser.old → OnOk result (PassesValue parser.old parser.new) }
@@ -327,9 +330,11 @@ pub fn read_fields<'de, 't, F: Fields<'de>>(
     borrows: bool,
     names: &'t [&'t str],
 ) -> Result<F, DeserializeError<'t>>
-    ensures read { IfOk result (λ f. IsRead (fields_of (table F.start (F.step borrows) F.ends) (keys names.now)) parser.old (F.view f) parser.new) }
+    ensures read { IfOk result
+        (λ f. IsRead (fields_of (table F.start (F.step borrows) F.ends) (keys names.now)) parser.old (F.view f) parser.new) }
     ensures owned { borrows ≡ false → IfOk result F.owned }
-    ensures unread { IfErr result (λ e. IsUnread (fields_of (table F.start (F.step borrows) F.ends) (keys names.now)) parser.old (refusal_of e)) }
+    ensures unread { IfErr result
+        (λ e. IsUnread (fields_of (table F.start (F.step borrows) F.ends) (keys names.now)) parser.old (refusal_of e)) }
     ensures one_value { OnOk result (PassesValue parser.old parser.new) }
     ensures tells { IfErr result (λ e. TellsRefusal parser.old parser.new (refusal_of e)) }
     ensures within { IfErr result (λ e. RefusalWithin parser.new.buffer (refusal_of e)) }
@@ -356,8 +361,8 @@ fn is_first(names: &[&str], key: &str) -> bool
     }
 }
 
-/// Whether a key is this name. Most differ in their lengths already. The letters of a short name that is a constant become constants, without
-/// a loop or a call.
+/// Whether a key is this name. Most differ in their lengths already. The letters of a short name that is a constant become constants,
+/// without a loop or a call.
 #[inline(always)]
 fn is_same(name: &str, key: &str) -> bool
     ensures { result ≡ bytes_eq name.now key.now }

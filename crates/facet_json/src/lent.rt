@@ -56,7 +56,8 @@ impl<'de> LentFields<'de> for Done {
 }
 
 impl<'de, 'a, T: Facet<'de>, R: LentFields<'de>> LentFields<'de> for Need<&'a T, R> {
-    ghost members = { λ names fields. pair (first_name names) (T.shape.tree_of (T.view fields.0.now)) (R.members (other_names names) fields.1) };
+    ghost members = { λ names fields.
+        pair (first_name names) (T.shape.tree_of (T.view fields.0.now)) (R.members (other_names names) fields.1) };
 
     ghost always = { λ fields. T.shape.always (T.view fields.0.now) × R.always fields.1 };
 

@@ -1,10 +1,11 @@
-//! JSON text (RFC 8259, with lenient readings) to values and back, proved: `from_slice`, `from_str` and their kin read a value of any type with
-//! `Facet`, `to_vec`, `to_string`, `to_writer_std` and their kin write one; a `Tree` is a value of any document, and `tree_from_slice` says
-//! exactly how none is refused. `from_slice_strict` and `tree_from_slice_strict` read texts of RFC 8259 alone. `read_fields` reads structs,
-//! `Lines` JSON lines. A `Document` is an input read into one list of nodes, without recursion, and looked into by `Value`s. `format_text` lays a text out anew, with its comments, and `check` says whether an input has a document. `JsonParser` reads by
-//! events, `JsonSerializer` writes by calls, `transcode` passes a value from the one to the other, and `scanner` has tokens, strings' contents and
-//! numbers by themselves. `JsonError` is what each refusal becomes by `?`, and `Report` shows it with its place in the source; a writer's or a
-//! reader's own failure alone stays a `WriteError` or a `LineError`.
+//! JSON text (RFC 8259, with lenient readings) to values and back, proved: `from_slice`, `from_str` and their kin read a value of any type
+//! with `Facet`, `to_vec`, `to_string`, `to_writer_std` and their kin write one; a `Tree` is a value of any document, and `tree_from_slice`
+//! says exactly how none is refused. `from_slice_strict` and `tree_from_slice_strict` read texts of RFC 8259 alone. `read_fields` reads
+//! structs, `Lines` JSON lines. A `Document` is an input read into one list of nodes, without recursion, and looked into by `Value`s.
+//! `format_text` lays a text out anew, with its comments, and `check` says whether an input has a document. `JsonParser` reads by events,
+//! `JsonSerializer` writes by calls, `transcode` passes a value from the one to the other, and `scanner` has tokens, strings' contents and
+//! numbers by themselves. `JsonError` is what each refusal becomes by `?`, and `Report` shows it with its place in the source; a writer's
+//! or a reader's own failure alone stays a `WriteError` or a `LineError`.
 #![tactic(auto)]
 
 mod documents;

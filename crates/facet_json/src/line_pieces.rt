@@ -1,6 +1,7 @@
 //! A line's bytes from a reader, piece by piece, as its buffer has them.
 
-ghost use Rattle.std.specs.Prelude.{◌≡◌, ◌≢◌, ◌+◌, ◌<◌, ◌≤◌, ℕ, List, [], ◌∷◌, All, length, take, slice_index, IfOk, IfSome, IfNone, OnOk, OnErr, None, true, false, vec_len};
+ghost use Rattle.std.specs.Prelude.{◌≡◌, ◌≢◌, ◌+◌, ◌<◌, ◌≤◌, ℕ, List, [], ◌∷◌, All, length, take, slice_index, IfOk, IfSome, IfNone, OnOk};
+ghost use Rattle.std.specs.Prelude.{OnErr, None, true, false, vec_len};
 ghost use Rattle.std.specs.Io.KnownBytes.{Keeps};
 ghost use Rattle.facet_json.specs.Inner.LinePieces.{LineGrows, LineStops, KeepsNext, LeavesNext};
 
@@ -47,8 +48,10 @@ fn read_piece<R: BufRead>(
 ) -> io::Result<Option<Stop>>
     requires { vec_len text.old ≤ limit }
     ensures within { vec_len text.new ≤ limit }
-    ensures stop { IfOk result (λ o. IfSome o (LineStops limit (R.remaining reader.old) (R.remaining reader.new) text.old.items text.new.items)) }
-    ensures inside { IfOk result (λ o. IfNone o (LineGrows [] (R.remaining reader.old) (R.remaining reader.new) text.old.items text.new.items)) }
+    ensures stop { IfOk result
+        (λ o. IfSome o (LineStops limit (R.remaining reader.old) (R.remaining reader.new) text.old.items text.new.items)) }
+    ensures inside { IfOk result
+        (λ o. IfNone o (LineGrows [] (R.remaining reader.old) (R.remaining reader.new) text.old.items text.new.items)) }
     ensures err { OnErr result (LineGrows [] (R.remaining reader.old) (R.remaining reader.new) text.old.items text.new.items) }
 {
     let shown = match reader.fill_buf() {

@@ -1,7 +1,8 @@
 //! JSON lines: a reader's bytes line by line, a value a line.
 
 ghost use Rattle.std.specs.Option.{option_map};
-ghost use Rattle.std.specs.Prelude.{◌≡◌, ◌≢◌, ◌↔◌, ◌^◌, ◌<◌, ◌≤◌, ℕ, [], ◌∷◌, All, length, true, false, None, IsTrue, OnOk, OnErr, IfErr, IfOk, IfSome};
+ghost use Rattle.std.specs.Prelude.{◌≡◌, ◌≢◌, ◌↔◌, ◌^◌, ◌<◌, ◌≤◌, ℕ, [], ◌∷◌, All, length, true, false, None, IsTrue, OnOk, OnErr, IfErr};
+ghost use Rattle.std.specs.Prelude.{IfOk, IfSome};
 ghost use Rattle.facet_json_token.specs.Gap.{plain};
 ghost use Rattle.facet_json.specs.Inputs.{FirstValue, StrictValue};
 ghost use Rattle.facet_json.specs.Lines.{lines, IsBlank, ComeFirst, PassesLines, GivesLine, HasNoLine};
@@ -67,8 +68,8 @@ pub enum LineError {
     },
     /// An allocation failed. No byte is lost: the next call goes on with the same line.
     Memory,
-    /// The reader failed, and this is its error. No byte is lost: the next call goes on with the same line. An interrupted read is tried again.
-    /// Of the kind `TimedOut` it is also where 2^64 lines, or 2^64 reads of one, have been too few.
+    /// The reader failed, and this is its error. No byte is lost: the next call goes on with the same line. An interrupted read is tried
+    /// again. Of the kind `TimedOut` it is also where 2^64 lines, or 2^64 reads of one, have been too few.
     Io(io::Error),
 }
 
@@ -98,8 +99,9 @@ pub(crate) enum Place {
     Past,
 }
 
-/// The lines of a reader, for JSON lines: a value a line. Of all that is read only one line is kept, so memory is needed for the longest, or
-/// for one of the limit. A line ends at its line feed, and the last one needs none. A blank line, of white space alone or nothing, is passed over.
+/// The lines of a reader, for JSON lines: a value a line. Of all that is read only one line is kept, so memory is needed for the longest,
+/// or for one of the limit. A line ends at its line feed, and the last one needs none. A blank line, of white space alone or nothing, is
+/// passed over.
 ///
 /// ```text
 /// let input = BufReader::new(alloc, reader)?;            of the bytes `{"a":1}`, a blank line, `[2]`
@@ -233,9 +235,11 @@ impl<R: BufRead> Lines<R> {
 
 /// Goes to where a line is to be read or gone on with.
 fn resume<R: BufRead>(reader: &mut R, text: &mut Vec<u8>, place: Place) -> io::Result<()>
-    ensures begun { OnOk result (ComeFirst (left_at place text.old.items (R.remaining reader.old)) (left_at Within text.new.items (R.remaining reader.new)) []) }
+    ensures begun { OnOk result
+        (ComeFirst (left_at place text.old.items (R.remaining reader.old)) (left_at Within text.new.items (R.remaining reader.new)) []) }
     ensures one { (limit : ℕ) → IsAt place text.old.items limit → OnOk result (IsAt Within text.new.items limit) }
-    ensures err { OnErr result (ComeFirst (left_at place text.old.items (R.remaining reader.old)) (left_at place text.new.items (R.remaining reader.new)) []) }
+    ensures err { OnErr result
+        (ComeFirst (left_at place text.old.items (R.remaining reader.old)) (left_at place text.new.items (R.remaining reader.new)) []) }
     ensures kept { OnErr result (text.new.items ≡ text.old.items) }
 {
     match place {

@@ -13,9 +13,9 @@ use facet_json_core::RawJson;
 use facet_json_tree::{OwnedDecimal, Tree};
 use std::alloc::{AllocError, Global};
 
-/// A tree as JSON is written: `null`, lists and objects as they stand, and an expression where a value may stand, whose type has `IntoTree`. The
-/// allocator comes first, and the answer is a `Result<Tree, AllocError>`. A name is a `&str`: a literal, or an expression in parentheses. A name
-/// that comes twice stands twice.
+/// A tree as JSON is written: `null`, lists and objects as they stand, and an expression where a value may stand, whose type has
+/// `IntoTree`. The allocator comes first, and the answer is a `Result<Tree, AllocError>`. A name is a `&str`: a literal, or an expression
+/// in parentheses. A name that comes twice stands twice.
 ///
 /// ```text
 /// let shown = tree!(in alloc; {"name": name, "tags": ["new", 1, true, null]})?;
@@ -120,7 +120,8 @@ pub fn push_member(
     name: &str,
     value: Tree,
 ) -> Result<(), AllocError>
-    ensures made { OnOk result ((key : RustString Global) × (string_bytes key ≡ name.now) × (members.new.items ≡ members.old.items ++ (key, value) ∷ [])) }
+    ensures made { OnOk result
+        ((key : RustString Global) × (string_bytes key ≡ name.now) × (members.new.items ≡ members.old.items ++ (key, value) ∷ [])) }
     ensures none { OnErr result (members.new.items ≡ members.old.items) }
 {
     let name = String::from_str(alloc, name)?;

@@ -1,6 +1,7 @@
 //! A search for the value that a JSON pointer names (RFC 6901), over a parser.
 //!
-//! The pointer is checked as a whole before anything is read. A key is compared with an escaped token byte by byte, so that no token is copied.
+//! The pointer is checked as a whole before anything is read. A key is compared with an escaped token byte by byte, so that no token is
+//! copied.
 
 ghost use Rattle.std.specs.Prelude.{◌≡◌, ◌≤◌, ℕ, List, Some, None, IfOk, IfErr, IfSome, MatchOption, codes, length, option_and_then};
 ghost use Rattle.facet_format.specs.Event.{bytes_of};
@@ -26,16 +27,16 @@ use facet_json_parser::JsonParser;
 use facet_json_tree::pointer::{check, first_token, index_of, stands_for};
 use std::borrow::CowStr;
 
-/// Goes to the value that a JSON pointer names (RFC 6901) within the value before which the parser stands, and answers whether there is one. Then
-/// the parser stands right before it, and it is read or passed as any value. The empty pointer names the value that comes next; each token
-/// behind a `/` names a member of an object, or an item of a list by its index, which is `0` or digits that do not begin with `0`. In a token
-/// `~1` stands for `/` and `~0` for `~`. A parser does not go back: of several members with one key the first one counts, unlike for
-/// `Tree::pointer`.
+/// Goes to the value that a JSON pointer names (RFC 6901) within the value before which the parser stands, and answers whether there is
+/// one. Then the parser stands right before it, and it is read or passed as any value. The empty pointer names the value that comes next;
+/// each token behind a `/` names a member of an object, or an item of a list by its index, which is `0` or digits that do not begin with
+/// `0`. In a token `~1` stands for `/` and `~0` for `~`. A parser does not go back: of several members with one key the first one counts,
+/// unlike for `Tree::pointer`.
 ///
 /// Where nothing has that name, the value in which a token names nothing is passed: an object or a list to its end, or a scalar.
 ///
-/// What stands before the value that is named is passed as `pass_value` does. Only keys with an escape are decoded, and a scalar that is an item
-/// behind a comment or in which a token is sought.
+/// What stands before the value that is named is passed as `pass_value` does. Only keys with an escape are decoded, and a scalar that is an
+/// item behind a comment or in which a token is sought.
 ///
 /// ```text
 /// of {"log":[{"ms":5},{"ms":7,"a/b":null}]}

@@ -20,8 +20,9 @@ use std::alloc::Global;
 ///
 /// # Errors
 ///
-/// The input's document is no value of the type: `TypeMismatch`, `NumberOutOfRange`, `InvalidValue` or `MissingField`. Or the input begins with no
-/// document, as far as it was looked at: a refusal of the kinds 1 to 4. Or out of memory. A span is an offset and a length in bytes.
+/// The input's document is no value of the type: `TypeMismatch`, `NumberOutOfRange`, `InvalidValue` or `MissingField`. Or the input begins
+/// with no document, as far as it was looked at: a refusal of the kinds 1 to 4. Or out of memory. A span is an offset and a length in
+/// bytes.
 pub fn from_slice<'t, 'de, T: Facet<'de>>(
     alloc: Global,
     input: &'de [u8],

@@ -13,8 +13,8 @@ use facet_json_parser::JsonParser;
 use std::alloc::Global;
 
 /// Reads the value of the bytes, which are one text of RFC 8259 (sections 2 to 7), with white space alone around it, and borrows nothing of
-/// them. Nothing lenient is read, but for what the type passes unread, as a struct does with unknown fields: within that, texts, numbers and
-/// commas are not looked at.
+/// them. Nothing lenient is read, but for what the type passes unread, as a struct does with unknown fields: within that, texts, numbers
+/// and commas are not looked at.
 ///
 /// ```text
 /// from_slice_strict::<u8>(alloc, b" 7 ")       Ok: 7
@@ -24,9 +24,10 @@ use std::alloc::Global;
 ///
 /// # Errors
 ///
-/// The document is no value of the type: `TypeMismatch`, `NumberOutOfRange`, `InvalidValue` or `MissingField`. Or the bytes are no text of RFC
-/// 8259, as far as they were looked at, or its strings or whole numbers are none that this library reads: a refusal of the kinds 1 to 4. Or
-/// `TypeMismatch`, expected `end of input`, where the type left a part of the document. Or out of memory. A span is an offset and a length in bytes.
+/// The document is no value of the type: `TypeMismatch`, `NumberOutOfRange`, `InvalidValue` or `MissingField`. Or the bytes are no text of
+/// RFC 8259, as far as they were looked at, or its strings or whole numbers are none that this library reads: a refusal of the kinds 1 to
+/// 4. Or `TypeMismatch`, expected `end of input`, where the type left a part of the document. Or out of memory. A span is an offset and a
+/// length in bytes.
 pub fn from_slice_strict<'t, 'de, T: Facet<'de>>(
     alloc: Global,
     input: &'de [u8],
@@ -63,7 +64,8 @@ fn whole_value<'t, 'de, T: Facet<'de>>(
     alloc: Global,
     parser: &mut JsonParser<'de>,
 ) -> Result<T, DeserializeError<'t>>
-    ensures value { (input : List ℕ) → parser.old ≡ fresh_in input (strict plain) → StrictValue T.shape.reading T.whole T.view input result }
+    ensures value { (input : List ℕ) → parser.old ≡ fresh_in input (strict plain)
+        → StrictValue T.shape.reading T.whole T.view input result }
     ensures owned { IfOk result T.owned }
 {
     let value = T::read_owned(alloc, parser)?;

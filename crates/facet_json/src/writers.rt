@@ -28,9 +28,11 @@ pub fn to_writer_std<'de, W: Write, T: Facet<'de>>(
     writer: &mut W,
     value: &T,
 ) -> Result<(), WriteError>
-    ensures written { OnOk result (Appends (W.contents writer.old) (W.contents writer.new) (text default_options 0 (T.shape.tree_of (T.view value.now)))) }
+    ensures written { OnOk result
+        (Appends (W.contents writer.old) (W.contents writer.new) (text default_options 0 (T.shape.tree_of (T.view value.now)))) }
     ensures memory { IsErrOf result WriteError.Memory → writer.new ≡ writer.old }
-    ensures read_back { OnOk result (IsReadable default_options (T.shape.tree_of (T.view value.now)) (text default_options 0 (T.shape.tree_of (T.view value.now)))) }
+    ensures read_back { OnOk result
+        (IsReadable default_options (T.shape.tree_of (T.view value.now)) (text default_options 0 (T.shape.tree_of (T.view value.now)))) }
 {
     to_writer_std_with_options(alloc, writer, value, &SerializeOptions::new())
 }
@@ -50,9 +52,11 @@ pub fn to_writer_std_pretty<'de, W: Write, T: Facet<'de>>(
     writer: &mut W,
     value: &T,
 ) -> Result<(), WriteError>
-    ensures written { OnOk result (Appends (W.contents writer.old) (W.contents writer.new) (text pretty_options 0 (T.shape.tree_of (T.view value.now)))) }
+    ensures written { OnOk result
+        (Appends (W.contents writer.old) (W.contents writer.new) (text pretty_options 0 (T.shape.tree_of (T.view value.now)))) }
     ensures memory { IsErrOf result WriteError.Memory → writer.new ≡ writer.old }
-    ensures read_back { OnOk result (IsReadable pretty_options (T.shape.tree_of (T.view value.now)) (text pretty_options 0 (T.shape.tree_of (T.view value.now)))) }
+    ensures read_back { OnOk result
+        (IsReadable pretty_options (T.shape.tree_of (T.view value.now)) (text pretty_options 0 (T.shape.tree_of (T.view value.now)))) }
 {
     to_writer_std_with_options(alloc, writer, value, &SerializeOptions::new().pretty())
 }
@@ -74,9 +78,12 @@ pub fn to_writer_std_with_options<'de, W: Write, T: Facet<'de>>(
     value: &T,
     options: &SerializeOptions<'_>,
 ) -> Result<(), WriteError>
-    ensures written { OnOk result (Appends (W.contents writer.old) (W.contents writer.new) (text (options_of options.now) 0 (T.shape.tree_of (T.view value.now)))) }
+    ensures written { OnOk result
+        (Appends (W.contents writer.old) (W.contents writer.new) (text (options_of options.now) 0 (T.shape.tree_of (T.view value.now)))) }
     ensures memory { IsErrOf result WriteError.Memory → writer.new ≡ writer.old }
-    ensures read_back { OnOk result (IsReadable (options_of options.now) (T.shape.tree_of (T.view value.now)) (text (options_of options.now) 0 (T.shape.tree_of (T.view value.now)))) }
+    ensures read_back { OnOk result
+        (IsReadable (options_of options.now) (T.shape.tree_of (T.view value.now))
+        (text (options_of options.now) 0 (T.shape.tree_of (T.view value.now)))) }
 {
     match to_vec_with_options(alloc, value, options) {
         Ok(text) => write_text(writer, text.as_slice()),

@@ -92,7 +92,8 @@ pub fn to_string<'de, T: Facet<'de>>(alloc: Global, value: &T) -> Result<String,
     ensures text { IfOk result (λ v. string_bytes v ≡ text default_options 0 (T.shape.tree_of (T.view value.now))) }
     ensures refused { IfErr result (λ e. write_refusal_of e ≡ out_of_memory) }
     ensures read_back { IfOk result (λ v. IsReadable default_options (T.shape.tree_of (T.view value.now)) (string_bytes v)) }
-    ensures comes_back { IfOk result (λ v. T.shape.readable (T.view value.now) → ComesBack T.shape.reading (string_bytes v) (T.view value.now)) }
+    ensures comes_back { IfOk result
+        (λ v. T.shape.readable (T.view value.now) → ComesBack T.shape.reading (string_bytes v) (T.view value.now)) }
 {
     to_string_with_options(alloc, value, &SerializeOptions::new())
 }

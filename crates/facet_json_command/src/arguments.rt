@@ -1,6 +1,7 @@
 //! What the arguments after the program's name ask for.
 
-ghost use Rattle.std.specs.Prelude.{◌≡◌, ◌≢◌, ◌≤◌, ◌⊎◌, ℕ, Bool, true, false, List, [], ◌∷◌, ◌++◌, length, codes, None, IfOk, IfErr, MatchOption, MatchResult};
+ghost use Rattle.std.specs.Prelude.{◌≡◌, ◌≢◌, ◌≤◌, ◌⊎◌, ℕ, Bool, true, false, List, [], ◌∷◌, ◌++◌, length, codes, None, IfOk, IfErr};
+ghost use Rattle.std.specs.Prelude.{MatchOption, MatchResult};
 ghost use Rattle.facet_json_token.specs.Gap.{plain};
 ghost use Rattle.facet_json_document.specs.Language.{Language as SpecLanguage, lenient};
 ghost use Rattle.facet_json_command.specs.declared.outcome.Outcome.TheVariants as outcome;
@@ -63,7 +64,8 @@ struct Words<'a> {
 impl<'a> Words<'a> {
     /// These words, and then one more, where it may stand there: each option once, and one other word.
     fn with(self, word: &'a str) -> Option<Words<'a>>
-        ensures { (before : List (List ℕ)) → AreWords (read_as self.entry.language) self.entry.pretty (operands_of self.entry.operand) before
+        ensures { (before : List (List ℕ))
+            → AreWords (read_as self.entry.language) self.entry.pretty (operands_of self.entry.operand) before
             → MatchOption result
             ((language : SpecLanguage) (pretty : Bool) (operands rest : List (List ℕ)) → length operands ≤ 1
             → ¬ AreWords language pretty operands (before ++ (word.now ∷ rest)))

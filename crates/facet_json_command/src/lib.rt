@@ -1,6 +1,6 @@
-//! The program: what its arguments ask for (`arguments::command_of`), what it does, over any reader and writer (`run::run`): a JSON document
-//! written anew, its events, its tokens, or the answers of a parser's calls; and how a run ends (`outcome::Outcome`): the line on standard
-//! error and the status (`outcome::write_line`, `outcome::status`).
+//! The program: what its arguments ask for (`arguments::command_of`), what it does, over any reader and writer (`run::run`): a JSON
+//! document written anew, its events, its tokens, or the answers of a parser's calls; and how a run ends (`outcome::Outcome`): the line on
+//! standard error and the status (`outcome::write_line`, `outcome::status`).
 #![tactic(auto)]
 
 pub mod arguments;

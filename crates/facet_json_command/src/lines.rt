@@ -6,13 +6,15 @@ ghost use Rattle.std.specs.List.{flat_map};
 ghost use Rattle.std.specs.Option.{option_map};
 ghost use Rattle.facet_format.specs.Event.{bytes_of};
 ghost use Rattle.facet_format.specs.HeldText.{text_of};
-ghost use Rattle.facet_format.specs.Views.{span_of, event_of, scalar_value_of, parse_refusal, answer_of_event, answer_of_skip, answer_of_capture, answer_of_save, answer_of_span};
+ghost use Rattle.facet_format.specs.Views.{span_of, event_of, scalar_value_of, parse_refusal, answer_of_event, answer_of_skip};
+ghost use Rattle.facet_format.specs.Views.{answer_of_capture, answer_of_save, answer_of_span};
 ghost use Rattle.facet_json_core.specs.ScriptViews.{answer_of};
 ghost use Rattle.facet_json_document.specs.Quoted.{quoted as quoted_text};
 ghost use Rattle.facet_json_document.specs.Text.{default_options, text as tree_text};
 ghost use Rattle.facet_json_tree.specs.Views.{tree_view};
 ghost use Rattle.facet_json_command.specs.declared.outcome.Outcome.TheVariants as outcome;
-ghost use Rattle.facet_json_command.specs.Lines.{head_text, place_line, value_line, scalar_line, event_line, refusal_line, count_line, next_line, raw_line, answer_lines};
+ghost use Rattle.facet_json_command.specs.Lines.{head_text, place_line, value_line, scalar_line, event_line, refusal_line, count_line};
+ghost use Rattle.facet_json_command.specs.Lines.{next_line, raw_line, answer_lines};
 ghost use Rattle.facet_json_command.specs.Views.{count_of};
 ghost use Rattle.facet_json_command.specs.Run.{Prints};
 ghost use Rattle.facet_json_command.specs.Session.{Marks, outcome_of};
@@ -56,7 +58,8 @@ fn write_scalar<W: Write>(
     span: Span,
     writer: &mut W,
 ) -> Result<(), Outcome>
-    ensures printed { Prints (W.contents writer.old) (W.contents writer.new) (scalar_line (scalar_value_of value.entry) (span_of span)) result }
+    ensures printed { Prints (W.contents writer.old) (W.contents writer.new)
+        (scalar_line (scalar_value_of value.entry) (span_of span)) result }
     ensures marks { Marks session.old.failed session.new.failed (outcome_of result) }
 {
     match value {
@@ -247,7 +250,8 @@ fn write_events<W: Write>(
     events: VecDeque<ParseEvent<'_>>,
     writer: &mut W,
 ) -> Result<(), Outcome>
-    ensures printed { Prints (W.contents writer.old) (W.contents writer.new) (flat_map event_line (map event_of events.entry.items)) result }
+    ensures printed { Prints (W.contents writer.old) (W.contents writer.new)
+        (flat_map event_line (map event_of events.entry.items)) result }
     ensures marks { Marks session.old.failed session.new.failed (outcome_of result) }
 {
     let mut events = events;
@@ -295,7 +299,8 @@ pub fn write_value<W: Write, D: Display + Drop>(
     span: Span,
     value: D,
 ) -> Result<(), Outcome>
-    ensures printed { IfSome (D.output value) (λ text. Prints (W.contents writer.old) (W.contents writer.new) (value_line name.now (span_of span) text) result) }
+    ensures printed { IfSome (D.output value)
+        (λ text. Prints (W.contents writer.old) (W.contents writer.new) (value_line name.now (span_of span) text) result) }
     ensures marks { Marks session.old.failed session.new.failed (outcome_of result) }
 {
     let offset = span.offset;
@@ -311,7 +316,8 @@ fn write_text<W: Write>(
     span: Span,
     text: CowStr<'_>,
 ) -> Result<(), Outcome>
-    ensures printed { Prints (W.contents writer.old) (W.contents writer.new) (value_line name.now (span_of span) (quoted_text (bytes_of (text_of text.entry)))) result }
+    ensures printed { Prints (W.contents writer.old) (W.contents writer.new)
+        (value_line name.now (span_of span) (quoted_text (bytes_of (text_of text.entry)))) result }
     ensures marks { Marks session.old.failed session.new.failed (outcome_of result) }
 {
     match quoted(session.alloc, text) {

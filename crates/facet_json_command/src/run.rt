@@ -23,7 +23,8 @@ ghost use Rattle.facet_json_command.specs.declared.outcome.Outcome.TheVariants a
 ghost use Rattle.facet_json_command.specs.Arguments.{Command as SpecCommand, AskFor, AskForNothing, fmt, drive as drives};
 ghost use Rattle.facet_json_command.specs.OutcomeViews.{words_of, read_as, command_view};
 ghost use Rattle.facet_json_command.specs.Lines.{answer_lines};
-ghost use Rattle.facet_json_command.specs.Run.{IsDocumentIn, HasDocumentIn, layout, IsReformatted, IsRefusal, OutcomeWithin, Formats, OnlyGrows, Prints, Lists, ListsTokens, Drives, AnswersInput, ForFmt, ForDrive};
+ghost use Rattle.facet_json_command.specs.Run.{IsDocumentIn, HasDocumentIn, layout, IsReformatted, IsRefusal, OutcomeWithin, Formats};
+ghost use Rattle.facet_json_command.specs.Run.{OnlyGrows, Prints, Lists, ListsTokens, Drives, AnswersInput, ForFmt, ForDrive};
 ghost use Rattle.facet_json_command.specs.Outcome.{IsFailure, IsFaultOfRun};
 ghost use Rattle.facet_json_command.specs.Session.{Marks, outcome_of};
 
@@ -54,7 +55,8 @@ pub fn run<R: Read, W: Write>(
     ensures untouched { AskForNothing (words_of args.now) → (reader.new ≡ reader.old) × (writer.new ≡ writer.old) }
     ensures answer { (command : SpecCommand) → AskFor command (words_of args.now) → IfSome (R.remaining reader.old) (λ input.
         AnswersInput command input (W.contents writer.old) (W.contents writer.new) result) }
-    ensures refused { (language : SpecLanguage) (pretty : Bool) (code : ℕ) (span : Option TheSpan) → AskFor (fmt language pretty) (words_of args.now)
+    ensures refused { (language : SpecLanguage) (pretty : Bool) (code : ℕ) (span : Option TheSpan)
+        → AskFor (fmt language pretty) (words_of args.now)
         → result ≡ outcome.Refused code span → writer.new ≡ writer.old }
     ensures only { (language : SpecLanguage) (pretty : Bool) → AskFor (fmt language pretty) (words_of args.now)
         → IfSome (R.remaining reader.old) (λ input. HasDocumentIn language input → (result ≡ outcome.Done) ⊎ IsFailure result) }
@@ -133,7 +135,8 @@ fn formatted<R: Read>(
 ) -> Result<Vec<u8>, Outcome>
     ensures ends { IfErr result (λ o. o ≢ outcome.Usage) }
     ensures text { IfSome (R.remaining reader.old) (λ input. IfOk result (λ v. IsReformatted (read_as language) pretty input v.items)) }
-    ensures refused { IfSome (R.remaining reader.old) (λ input. IfErr result (λ o. (o ≡ outcome.Io) ⊎ IsRefusal (read_as language) input o)) }
+    ensures refused { IfSome (R.remaining reader.old)
+        (λ input. IfErr result (λ o. (o ≡ outcome.Io) ⊎ IsRefusal (read_as language) input o)) }
     ensures only { IfSome (R.remaining reader.old) (λ input. HasDocumentIn (read_as language) input → IfErr result IsFailure) }
     ensures within { IfSome (R.remaining reader.old) (λ input. IfErr result (OutcomeWithin (length input))) }
     ensures marks { Marks session.old.failed session.new.failed (outcome_of result) }
@@ -221,7 +224,8 @@ fn text_of(serializer: JsonSerializer<'_>) -> Result<Vec<u8>, Outcome>
 
 /// How it ends the run that the document was not passed.
 fn refused(error: TranscodeError<'_>) -> Outcome
-    ensures refused { (mode : SpecMode) (input : List ℕ) → IsTranscodeRefused input mode error.entry → IsRefusal (lenient mode) input result }
+    ensures refused { (mode : SpecMode) (input : List ℕ) → IsTranscodeRefused input mode error.entry
+        → IsRefusal (lenient mode) input result }
     ensures strictly { (input : List ℕ) → (IsStrict input → TranscodeLacksMemory error.entry) → IsRefusal (strict plain) input result }
     ensures failed { TranscodeLacksMemory error.entry → IsFailure result }
     ensures within { (len : ℕ) → RefusesWithin len error.entry → OutcomeWithin len result }
@@ -371,7 +375,8 @@ fn write_answers<W: Write>(
     answers: Vec<Answer<'_>>,
     writer: &mut W,
 ) -> Result<(), Outcome>
-    ensures printed { Prints (W.contents writer.old) (W.contents writer.new) (flat_map answer_lines (map answer_of answers.entry.items)) result }
+    ensures printed { Prints (W.contents writer.old) (W.contents writer.new)
+        (flat_map answer_lines (map answer_of answers.entry.items)) result }
     ensures marks { Marks session.old.failed session.new.failed (outcome_of result) }
 {
     write_ahead(session, &mut answers.into_iter(), writer)
@@ -383,7 +388,8 @@ fn write_ahead<W: Write>(
     answers: &mut IntoIter<Answer<'_>>,
     writer: &mut W,
 ) -> Result<(), Outcome>
-    ensures printed { Prints (W.contents writer.old) (W.contents writer.new) (flat_map answer_lines (map answer_of (into_iter_items answers.old))) result }
+    ensures printed { Prints (W.contents writer.old) (W.contents writer.new)
+        (flat_map answer_lines (map answer_of (into_iter_items answers.old))) result }
     ensures marks { Marks session.old.failed session.new.failed (outcome_of result) }
 {
     while let Some(answer) = answers.next() {

@@ -36,9 +36,11 @@ pub fn scan_all<R: Read>(
     ensures scanned { IfOk result (λ s. IfSome (R.remaining input.old.source.reader.now) (λ bytes. AreTokensOf bytes (mode_of mode) s)) }
     ensures so_far { IfOk result (λ s. AreTokensOf s.buf.items (mode_of mode) s) }
     ensures whole { IfOk result (λ s. IfNone s.refusal (IfSome (R.remaining input.old.source.reader.now) (λ bytes. s.buf.items ≡ bytes))) }
-    ensures within { IfOk result (λ s. IfSome (R.remaining input.old.source.reader.now) (λ bytes. ScanRefusalWithin (length bytes) s.refusal)) }
+    ensures within { IfOk result
+        (λ s. IfSome (R.remaining input.old.source.reader.now) (λ bytes. ScanRefusalWithin (length bytes) s.refusal)) }
     ensures memory { input.new.source.failed ≡ false → IfErr result (λ o. o ≡ outcome.Refused 9 None) }
-    ensures unread { input.old.source.failed ≡ false → input.new.source.failed ≡ true → MatchResult result (λ _. ⊥) (IsToldAs input.new.kind) }
+    ensures unread { input.old.source.failed ≡ false → input.new.source.failed ≡ true
+        → MatchResult result (λ _. ⊥) (IsToldAs input.new.kind) }
     ensures fault { IfErr result IsFaultOfRun }
     ensures marks { Marks session.old.failed session.new.failed (outcome_of result) }
 {

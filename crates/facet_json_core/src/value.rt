@@ -1,6 +1,7 @@
 //! A value from a parser to a serializer, event by event, and how the next event of a value is read, and the end behind a root.
 
-ghost use Rattle.std.specs.Prelude.{◌≡◌, ◌⊎◌, ◌≤◌, ◌<◌, ◌+◌, ℕ, List, true, false, None, Some, length, IfOk, IfErr, IfSome, OnOk, MatchResult, ◌≢◌, Ok, OnErr};
+ghost use Rattle.std.specs.Prelude.{◌≡◌, ◌⊎◌, ◌≤◌, ◌<◌, ◌+◌, ℕ, List, true, false, None, Some, length, IfOk, IfErr, IfSome, OnOk};
+ghost use Rattle.std.specs.Prelude.{MatchResult, ◌≢◌, Ok, OnErr};
 ghost use Rattle.facet_format.specs.Complaint.{no_memory};
 ghost use Rattle.facet_format.specs.Event.{Passed};
 ghost use Rattle.facet_format.specs.Views.{event_kind_of, event_of, refusal_of, scalar_value_of};
@@ -20,7 +21,8 @@ ghost use Rattle.facet_json_core.specs.Reading.{GivesNone};
 ghost use Rattle.facet_json_core.specs.Refusing.{TellsRefusal, mismatch_of, name_of_event, name_of_scalar, no_value_after};
 ghost use Rattle.facet_json_core.specs.Told.{begins};
 ghost use Rattle.facet_json_core.specs.Transcode.{serializer_call_of, containers_after as spec_depth_after, IsWritten, BeginsNone};
-ghost use Rattle.facet_json_core.specs.TranscodeViews.{IsUnwritten, TranscodeLacksMemory, IsTranscodeRefused, ErrorWithin, IsMisplaced, TellsError};
+ghost use Rattle.facet_json_core.specs.TranscodeViews.{IsUnwritten, TranscodeLacksMemory, IsTranscodeRefused, ErrorWithin, IsMisplaced};
+ghost use Rattle.facet_json_core.specs.TranscodeViews.{TellsError};
 ghost use Rattle.facet_format.specs.Cursor.{next, event};
 ghost use Rattle.facet_format.specs.Span.{stop};
 ghost use Rattle.facet_format.specs.Steps.{IsStep};
@@ -61,7 +63,8 @@ pub fn transcode<'t>(
     ensures unwritten { (w : SpecWriting) → serializer.old ≡ Some w → parser.old.cursor.refusal ≡ None
         → IfErr result (λ e. IsUnwritten parser.old.buffer (future_of parser.old) e) }
     ensures document { (input : List ℕ) (mode : SpecMode) (w : SpecWriting) → parser.old ≡ fresh input mode → serializer.old ≡ Some w
-        → OnOk result ((root : Node) × (value : SpecTree) × IsDocument input mode root value × (serializer.new ≡ Some (with_tree w value))) }
+        → OnOk result ((root : Node) × (value : SpecTree) × IsDocument input mode root value
+        × (serializer.new ≡ Some (with_tree w value))) }
     ensures refused { (input : List ℕ) (mode : SpecMode) (w : SpecWriting) → parser.old ≡ fresh input mode → serializer.old ≡ Some w
         → IfErr result (λ e. IsTranscodeRefused input mode e) }
     ensures only { (input : List ℕ) (mode : SpecMode) (w : SpecWriting) → parser.old ≡ fresh input mode → serializer.old ≡ Some w
@@ -74,10 +77,12 @@ pub fn transcode<'t>(
         → (root : Node) × (value : SpecTree) × IsStrictDocument input root value × (serializer.new ≡ Some (with_tree w value))) }
     ensures strict_only { (input : List ℕ) (w : SpecWriting) → parser.old ≡ fresh_in input (strict plain) → serializer.old ≡ Some w
         → (root : Node) (value : SpecTree) → IsStrictDocument input root value
-        → MatchResult result (λ _. (serializer.new ≡ Some (with_tree w value)) × (future_of parser.new ≡ finished)) (λ e. TranscodeLacksMemory e) }
+        → MatchResult result (λ _. (serializer.new ≡ Some (with_tree w value)) × (future_of parser.new ≡ finished))
+        (λ e. TranscodeLacksMemory e) }
     ensures within { IfErr result (λ e. ErrorWithin (length parser.old.buffer) e) }
     ensures tells { IfErr result (λ e. TellsError parser.old parser.new e) }
-    ensures misplaced { (p : Passed) (rest : Future) → parser.old.cursor.refusal ≡ None → future_of parser.old ≡ gives p rest → begins p.event.kind ≡ false
+    ensures misplaced { (p : Passed) (rest : Future) → parser.old.cursor.refusal ≡ None → future_of parser.old ≡ gives p rest
+        → begins p.event.kind ≡ false
         → MatchResult result (λ _. ⊥) (IsMisplaced p.event) × (serializer.new ≡ serializer.old) }
     ensures same { parser.new.buffer ≡ parser.old.buffer }
     ensures free { OnOk result (parser.new.cursor.refusal ≡ None) }
@@ -96,7 +101,8 @@ fn write_value<'t>(
         → IfErr result (λ e. IsUnwritten parser.old.buffer (future_of parser.old) e) }
     ensures within { IfErr result (λ e. ErrorWithin (length parser.old.buffer) e) }
     ensures tells { IfErr result (λ e. TellsError parser.old parser.new e) }
-    ensures misplaced { (p : Passed) (rest : Future) → parser.old.cursor.refusal ≡ None → future_of parser.old ≡ gives p rest → begins p.event.kind ≡ false
+    ensures misplaced { (p : Passed) (rest : Future) → parser.old.cursor.refusal ≡ None → future_of parser.old ≡ gives p rest
+        → begins p.event.kind ≡ false
         → MatchResult result (λ _. ⊥) (IsMisplaced p.event) × (serializer.new ≡ serializer.old) }
     ensures same { parser.new.buffer ≡ parser.old.buffer }
     ensures free { OnOk result (parser.new.cursor.refusal ≡ None) }
@@ -126,7 +132,8 @@ fn next_within<'t, 'de>(
     ensures gave { IfOk result (λ e. PassesNext parser.old (event_of e) parser.new) }
     ensures shorter { OnOk result (ahead parser.new < ahead parser.old) }
     ensures begun { IfOk result (λ e. depth ≡ 0 → begins (event_of e).kind ≡ true) }
-    ensures refused { parser.old.cursor.refusal ≡ None → IfErr result (λ e. GivesNone parser.old (refusal_of e) ⊎ BeginsNone parser.old depth (refusal_of e)) }
+    ensures refused { parser.old.cursor.refusal ≡ None
+        → IfErr result (λ e. GivesNone parser.old (refusal_of e) ⊎ BeginsNone parser.old depth (refusal_of e)) }
     ensures within { IfErr result (λ e. IfSome e.span (λ s. s.offset + s.len ≤ length parser.new.buffer)) }
     ensures tells { IfErr result (λ e. TellsRefusal parser.old parser.new (refusal_of e)) }
 {
@@ -236,7 +243,8 @@ pub fn ended<'t>(parser: &JsonParser<'_>) -> DeserializeError<'t>
 ///
 /// # Errors
 ///
-/// As the parser's `next_event`; and `TypeMismatch`, expected `end of input`, with the event's span, where an event comes: the value is not over.
+/// As the parser's `next_event`; and `TypeMismatch`, expected `end of input`, with the event's span, where an event comes: the value is not
+/// over.
 pub fn pass_end<'t>(parser: &mut JsonParser<'_>) -> Result<(), DeserializeError<'t>>
     ensures over { OnOk result (IsOver parser.old parser.new) }
     ensures only { parser.old.cursor.refusal ≡ None → OnErr result (future_of parser.old ≢ finished) }

@@ -1,5 +1,5 @@
-//! A struct of ten fields, which is read and written by a table of their names, and has its laws by a list of them: for the tests of types and for the
-//! benchmark.
+//! A struct of ten fields, which is read and written by a table of their names, and has its laws by a list of them: for the tests of types
+//! and for the benchmark.
 #![tactic(auto)]
 
 use facet_format::DeserializeError;

@@ -176,7 +176,16 @@ impl<'de> Facet<'de> for Config {
 
     ghost View = { List ℕ × (Option ℕ × (List (List ℕ) × (Option (ℕ × (Option ℕ × Unit {0})) × Unit {0}))) };
 
-    ghost view = { λ c. (string_bytes c.host, (option_map (λ n. n) c.port, (map string_bytes c.tags.items, (option_map (λ r. (r.times, (option_map (λ n. n) r.wait, tt))) c.retry, tt)))) };
+    ghost view = { λ c. (
+      string_bytes c.host,
+      (
+        option_map (λ n. n) c.port,
+        (
+          map string_bytes c.tags.items,
+          (option_map (λ r. (r.times, (option_map (λ n. n) r.wait, tt))) c.retry, tt),
+        ),
+      ),
+    ) };
 
     ghost shape = { config };
 

@@ -15,8 +15,8 @@ use facet_json::laws::document_comes_back;
 use facet_json::{JsonError, to_vec, to_vec_pretty, tree_from_slice};
 use std::alloc::Global;
 
-/// The document that the input has, written anew: of ` [1,] x` it is `[1]`. It is one document again, whose tree is the same, but that `-0` is
-/// `0`. Where the input has a document, only memory can lack.
+/// The document that the input has, written anew: of ` [1,] x` it is `[1]`. It is one document again, whose tree is the same, but that `-0`
+/// is `0`. Where the input has a document, only memory can lack.
 pub fn rewritten(alloc: Global, input: &[u8]) -> Result<Vec<u8>, JsonError>
     ensures written { IfOk result (λ v. (root : Node) × (value : Tree) × IsDocument input.now plain root value
         × (v.items ≡ text default_options 0 value)

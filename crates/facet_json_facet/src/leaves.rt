@@ -6,7 +6,8 @@ ghost use Rattle.facet_format.specs.Views.{event_of, scalar_value_of};
 ghost use Rattle.facet_json_serializer.specs.Serializer.{scalar_tree};
 ghost use Rattle.facet_json_tree.specs.Write.{IsOfRust};
 ghost use Rattle.facet_json_core.specs.Meaning.Readings.{taken, leaf};
-ghost use Rattle.facet_json_facet.specs.Calls.{refusal_of, ahead, RefusalWithin, TellsRefusal, KeepsOn, PassesValue, IsRead, IsUnread, HasDocument, EndsStrictly};
+ghost use Rattle.facet_json_facet.specs.Calls.{refusal_of, ahead, RefusalWithin, TellsRefusal, KeepsOn, PassesValue, IsRead, IsUnread};
+ghost use Rattle.facet_json_facet.specs.Calls.{HasDocument, EndsStrictly};
 ghost use Rattle.facet_json_facet.specs.Inner.Taking.{TakesNext, IsTakenOf};
 
 use crate::facet::Facet;

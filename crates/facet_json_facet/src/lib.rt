@@ -1,5 +1,5 @@
-//! Types that are read from JSON and written as JSON: the trait `Facet`, and the types of std and of this library that have it. What it means
-//! that a type is read is defined in `facet_json_core`. `steps` has what readers by hand are made of.
+//! Types that are read from JSON and written as JSON: the trait `Facet`, and the types of std and of this library that have it. What it
+//! means that a type is read is defined in `facet_json_core`. `steps` has what readers by hand are made of.
 #![tactic(auto)]
 
 mod facet;

@@ -73,9 +73,11 @@ fn list_in<'t, 'de, T: Facet<'de>>(
     parser: &mut JsonParser<'de>,
     borrows: bool,
 ) -> Result<Vec<T>, DeserializeError<'t>>
-    ensures read { IfOk result (λ v. IsRead (list_of (cond borrows T.shape.reading_borrowed T.shape.reading)) parser.old (map T.view v.items) parser.new) }
+    ensures read { IfOk result
+        (λ v. IsRead (list_of (cond borrows T.shape.reading_borrowed T.shape.reading)) parser.old (map T.view v.items) parser.new) }
     ensures owned { borrows ≡ false → IfOk result (λ v. All T.owned v.items) }
-    ensures unread { IfErr result (λ e. IsUnread (list_of (cond borrows T.shape.reading_borrowed T.shape.reading)) parser.old (refusal_of e)) }
+    ensures unread { IfErr result
+        (λ e. IsUnread (list_of (cond borrows T.shape.reading_borrowed T.shape.reading)) parser.old (refusal_of e)) }
     ensures keeps { KeepsOn parser.old parser.new }
     ensures shorter { OnOk result (ahead parser.new < ahead parser.old) }
     ensures one_value { OnOk result (PassesValue parser.old parser.new) }

@@ -66,9 +66,12 @@ fn map_in<'t, 'de, T: Facet<'de>>(
     parser: &mut JsonParser<'de>,
     borrows: bool,
 ) -> Result<BTreeMap<String, T>, DeserializeError<'t>>
-    ensures read { IfOk result (λ m. IsRead (map_of (cond borrows T.shape.reading_borrowed T.shape.reading)) parser.old (seen_entries T.view m.entries) parser.new) }
+    ensures read { IfOk result
+        (λ m. IsRead (map_of (cond borrows T.shape.reading_borrowed T.shape.reading)) parser.old
+        (seen_entries T.view m.entries) parser.new) }
     ensures owned { borrows ≡ false → IfOk result (λ m. All (λ e. T.owned e.1) m.entries) }
-    ensures unread { IfErr result (λ e. IsUnread (map_of (cond borrows T.shape.reading_borrowed T.shape.reading)) parser.old (refusal_of e)) }
+    ensures unread { IfErr result
+        (λ e. IsUnread (map_of (cond borrows T.shape.reading_borrowed T.shape.reading)) parser.old (refusal_of e)) }
     ensures keeps { KeepsOn parser.old parser.new }
     ensures shorter { OnOk result (ahead parser.new < ahead parser.old) }
     ensures one_value { OnOk result (PassesValue parser.old parser.new) }

@@ -66,9 +66,11 @@ fn optional_in<'t, 'de, T: Facet<'de>>(
     parser: &mut JsonParser<'de>,
     borrows: bool,
 ) -> Result<Option<T>, DeserializeError<'t>>
-    ensures read { IfOk result (λ o. IsRead (optional (cond borrows T.shape.reading_borrowed T.shape.reading)) parser.old (option_map T.view o) parser.new) }
+    ensures read { IfOk result
+        (λ o. IsRead (optional (cond borrows T.shape.reading_borrowed T.shape.reading)) parser.old (option_map T.view o) parser.new) }
     ensures owned { borrows ≡ false → IfOk result (λ o. IfSome o T.owned) }
-    ensures unread { IfErr result (λ e. IsUnread (optional (cond borrows T.shape.reading_borrowed T.shape.reading)) parser.old (refusal_of e)) }
+    ensures unread { IfErr result
+        (λ e. IsUnread (optional (cond borrows T.shape.reading_borrowed T.shape.reading)) parser.old (refusal_of e)) }
     ensures keeps { KeepsOn parser.old parser.new }
     ensures shorter { OnOk result (ahead parser.new < ahead parser.old) }
     ensures one_value { OnOk result (PassesValue parser.old parser.new) }

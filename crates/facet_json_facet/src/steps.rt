@@ -1,6 +1,6 @@
-//! The steps of readers that are written by hand over a `JsonParser`: the next event of a value, whether null comes, the events of a list and of an
-//! object one by one, and a value that is passed unread. Each says what it does wherever the parser stands on a document's walk, and what
-//! it keeps on every input. The types of std and structs are read by them too.
+//! The steps of readers that are written by hand over a `JsonParser`: the next event of a value, whether null comes, the events of a list
+//! and of an object one by one, and a value that is passed unread. Each says what it does wherever the parser stands on a document's walk,
+//! and what it keeps on every input. The types of std and structs are read by them too.
 
 mod find;
 pub(crate) mod lists;

@@ -26,7 +26,8 @@ impl Leaf for u128 {
 
     ghost takes = { u128_of };
 
-    ghost refuses = { λ given r. (r ≡ refusal_at (number_out_of_range (codes "u128")) given.span) ⊎ (r ≡ mismatch_of (codes "u128") given) };
+    ghost refuses = { λ given r.
+        (r ≡ refusal_at (number_out_of_range (codes "u128")) given.span) ⊎ (r ≡ mismatch_of (codes "u128") given) };
 
     ghost tree_of = { u128_tree };
 

@@ -24,8 +24,8 @@ use facet_json_token::Mode;
 use facet_json_token::cutting::skip_gap;
 use std::alloc::Global;
 
-/// Checks that the bytes begin with a document without comments (RFC 8259, sections 2 to 7, with lenient readings such as a trailing comma): what
-/// `tree_from_slice` reads, but nothing is kept of it. What follows it is not looked at.
+/// Checks that the bytes begin with a document without comments (RFC 8259, sections 2 to 7, with lenient readings such as a trailing
+/// comma): what `tree_from_slice` reads, but nothing is kept of it. What follows it is not looked at.
 ///
 /// It does not recurse. Memory is asked for by deeper nesting and by texts with escapes.
 ///
@@ -95,8 +95,8 @@ pub fn check_strict<'t>(alloc: Global, input: &[u8]) -> Result<(), DeserializeEr
 ///
 /// # Errors
 ///
-/// As `check`, or `check_jsonc`, where no document begins; and what stands behind the document: `UnexpectedToken`, expected `end of input`, where it
-/// is a token, and else as a scanner refuses it. Or out of memory. A span is an offset and a length in bytes.
+/// As `check`, or `check_jsonc`, where no document begins; and what stands behind the document: `UnexpectedToken`, expected `end of input`,
+/// where it is a token, and else as a scanner refuses it. Or out of memory. A span is an offset and a length in bytes.
 pub fn check_whole<'t>(alloc: Global, text: &[u8], mode: Mode) -> Result<(), DeserializeError<'t>>
     ensures document { OnOk result (HasOneDocument text.now (mode_of mode)) }
     ensures only { HasOneDocument text.now (mode_of mode) → IfErr result (λ e. LacksMemory (refusal_of e)) }
@@ -124,7 +124,8 @@ fn last_token<'t>(alloc: Global, text: &[u8], mode: Mode) -> Result<Span, Deseri
 fn pass_up<'t>(parser: &mut JsonParser<'_>) -> Result<Span, DeserializeError<'t>>
     requires unpeeked { parser.old.cursor.spot.peeked ≡ false }
     ensures up { IfOk result (λ last. PassesUp parser.old (span_of last)) }
-    ensures refused { parser.old.cursor.refusal ≡ None → IfErr result (λ e. LacksMemory (refusal_of e) ⊎ GetsStuck parser.old (refusal_of e)) }
+    ensures refused { parser.old.cursor.refusal ≡ None
+        → IfErr result (λ e. LacksMemory (refusal_of e) ⊎ GetsStuck parser.old (refusal_of e)) }
     ensures inside { IfOk result (λ last. stop (span_of last) ≤ length parser.old.buffer) }
     ensures within { IfErr result (λ e. RefusalWithin parser.old.buffer (refusal_of e)) }
 {
@@ -153,7 +154,8 @@ fn pass_behind<'t>(
 ) -> Result<(), DeserializeError<'t>>
     requires inside { stop (span_of last) ≤ length text.now }
     ensures done { OnOk result (tokens_from text.now (mode_of mode) (stop (span_of last)) ≡ ended) }
-    ensures refused { IfErr result (λ e. IsStuckBehind text.now (tokens_from text.now (mode_of mode) (stop (span_of last))) (refusal_of e)) }
+    ensures refused { IfErr result
+        (λ e. IsStuckBehind text.now (tokens_from text.now (mode_of mode) (stop (span_of last))) (refusal_of e)) }
     ensures within { IfErr result (λ e. RefusalWithin text.now (refusal_of e)) }
 {
     if skip_gap(text, last.end(), mode) == text.len() {

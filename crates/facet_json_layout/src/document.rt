@@ -67,10 +67,12 @@ impl<'i> Document<'i> {
     ///
     /// # Errors
     ///
-    /// The bytes begin with no document, and are refused as by `tree_from_slice`: a span is an offset and a length in bytes. Or out of memory.
+    /// The bytes begin with no document, and are refused as by `tree_from_slice`: a span is an offset and a length in bytes. Or out of
+    /// memory.
     pub fn parse<'t>(alloc: Global, input: &'i [u8]) -> Result<Document<'i>, DeserializeError<'t>>
         ensures document { IfOk result (λ d. (root : Root) × IsDocument input.now plain root (document_view d)) }
-        ensures nodes { (root : Root) (value : Tree) → IsDocument input.now plain root value → IfOk result (λ d. document_nodes d ≡ as_nodes input.now root) }
+        ensures nodes { (root : Root) (value : Tree) → IsDocument input.now plain root value
+            → IfOk result (λ d. document_nodes d ≡ as_nodes input.now root) }
         ensures refused { IfErr result (λ e. LacksMemory (refusal_of e) ⊎ Refuses input.now plain (refusal_of e)) }
         ensures only { (root : Root) (value : Tree) → IsDocument input.now plain root value
             → MatchResult result (λ d. document_view d ≡ value) (λ e. LacksMemory (refusal_of e)) }
@@ -94,7 +96,8 @@ impl<'i> Document<'i> {
         input: &'i [u8],
     ) -> Result<Document<'i>, DeserializeError<'t>>
         ensures document { IfOk result (λ d. (root : Root) × IsDocument input.now jsonc root (document_view d)) }
-        ensures nodes { (root : Root) (value : Tree) → IsDocument input.now jsonc root value → IfOk result (λ d. document_nodes d ≡ as_nodes input.now root) }
+        ensures nodes { (root : Root) (value : Tree) → IsDocument input.now jsonc root value
+            → IfOk result (λ d. document_nodes d ≡ as_nodes input.now root) }
         ensures refused { IfErr result (λ e. LacksMemory (refusal_of e) ⊎ Refuses input.now jsonc (refusal_of e)) }
         ensures only { (root : Root) (value : Tree) → IsDocument input.now jsonc root value
             → MatchResult result (λ d. document_view d ≡ value) (λ e. LacksMemory (refusal_of e)) }
@@ -119,7 +122,8 @@ impl<'i> Document<'i> {
         input: &'i [u8],
     ) -> Result<Document<'i>, DeserializeError<'t>>
         ensures document { IfOk result (λ d. (root : Root) × IsStrictDocument input.now root (document_view d)) }
-        ensures nodes { (root : Root) (value : Tree) → IsStrictDocument input.now root value → IfOk result (λ d. document_nodes d ≡ as_nodes input.now root) }
+        ensures nodes { (root : Root) (value : Tree) → IsStrictDocument input.now root value
+            → IfOk result (λ d. document_nodes d ≡ as_nodes input.now root) }
         ensures refused { IfErr result (λ e. LacksOrGetsStuck input.now (refusal_of e)) }
         ensures only { (root : Root) (value : Tree) → IsStrictDocument input.now root value
             → MatchResult result (λ d. document_view d ≡ value) (λ e. LacksMemory (refusal_of e)) }
@@ -129,9 +133,9 @@ impl<'i> Document<'i> {
         Ok(Document { input, nodes, held })
     }
 
-    /// Reads as `parse`, where the document nests no deeper than `depth`, as `tree_from_slice_within` does: an array or object counts one, and one
-    /// within it counts one more (RFC 8259, section 9, lets a reader limit their depth). A scalar has depth 0. Reading does not recurse; a caller that
-    /// goes down into the values by recursion, or takes their tree, is bounded so.
+    /// Reads as `parse`, where the document nests no deeper than `depth`, as `tree_from_slice_within` does: an array or object counts one,
+    /// and one within it counts one more (RFC 8259, section 9, lets a reader limit their depth). A scalar has depth 0. Reading does not
+    /// recurse; a caller that goes down into the values by recursion, or takes their tree, is bounded so.
     ///
     /// ```text
     /// Document::parse_within(alloc, b"[[1]]", 2)    Ok: its root is a list of a list
@@ -140,15 +144,16 @@ impl<'i> Document<'i> {
     ///
     /// # Errors
     ///
-    /// As `parse`; and at the first opening bracket with `depth` containers around it already, whatever stands after it: `InvalidValue`, its span the
-    /// bracket's offset and length in bytes.
+    /// As `parse`; and at the first opening bracket with `depth` containers around it already, whatever stands after it: `InvalidValue`,
+    /// its span the bracket's offset and length in bytes.
     pub fn parse_within<'t>(
         alloc: Global,
         input: &'i [u8],
         depth: usize,
     ) -> Result<Document<'i>, DeserializeError<'t>>
         ensures document { IfOk result (λ d. (root : Root) × IsDocument input.now plain root (document_view d) × (depth_of root ≤ depth)) }
-        ensures nodes { (root : Root) (value : Tree) → IsDocument input.now plain root value → IfOk result (λ d. document_nodes d ≡ as_nodes input.now root) }
+        ensures nodes { (root : Root) (value : Tree) → IsDocument input.now plain root value
+            → IfOk result (λ d. document_nodes d ≡ as_nodes input.now root) }
         ensures only { (root : Root) (value : Tree) → IsDocument input.now plain root value → depth_of root ≤ depth
             → MatchResult result (λ d. document_view d ≡ value) (λ e. LacksMemory (refusal_of e)) }
         ensures deeper { (root : Root) (value : Tree) (s : Span) → IsDocument input.now plain root value → first_beyond depth root ≡ Some s
@@ -160,8 +165,8 @@ impl<'i> Document<'i> {
         Ok(Document { input, nodes, held })
     }
 
-    /// Reads as `parse_jsonc`, where the document nests no deeper than `depth`, which counts as in `parse_within`. A bracket within a comment counts
-    /// nothing.
+    /// Reads as `parse_jsonc`, where the document nests no deeper than `depth`, which counts as in `parse_within`. A bracket within a
+    /// comment counts nothing.
     ///
     /// ```text
     /// Document::parse_within_jsonc(alloc, b"[/* [[ */ 1]", 1)    Ok: its root is a list of 1
@@ -180,7 +185,8 @@ impl<'i> Document<'i> {
         ensures deeper { (root : Root) (value : Tree) (s : Span) → IsDocument input.now jsonc root value → first_beyond depth root ≡ Some s
             → MatchResult result (λ _. ⊥) (λ e. LacksMemory (refusal_of e) ⊎ (refusal_of e ≡ too_deep_at s)) }
         ensures document { IfOk result (λ d. (root : Root) × IsDocument input.now jsonc root (document_view d) × (depth_of root ≤ depth)) }
-        ensures nodes { (root : Root) (value : Tree) → IsDocument input.now jsonc root value → IfOk result (λ d. document_nodes d ≡ as_nodes input.now root) }
+        ensures nodes { (root : Root) (value : Tree) → IsDocument input.now jsonc root value
+            → IfOk result (λ d. document_nodes d ≡ as_nodes input.now root) }
         ensures only { (root : Root) (value : Tree) → IsDocument input.now jsonc root value → depth_of root ≤ depth
             → MatchResult result (λ d. document_view d ≡ value) (λ e. LacksMemory (refusal_of e)) }
     {
@@ -203,12 +209,14 @@ impl<'i> Document<'i> {
         depth: usize,
     ) -> Result<Document<'i>, DeserializeError<'t>>
         ensures document { IfOk result (λ d. (root : Root) × IsStrictDocument input.now root (document_view d) × (depth_of root ≤ depth)) }
-        ensures nodes { (root : Root) (value : Tree) → IsStrictDocument input.now root value → IfOk result (λ d. document_nodes d ≡ as_nodes input.now root) }
+        ensures nodes { (root : Root) (value : Tree) → IsStrictDocument input.now root value
+            → IfOk result (λ d. document_nodes d ≡ as_nodes input.now root) }
         ensures only { (root : Root) (value : Tree) → IsStrictDocument input.now root value → depth_of root ≤ depth
             → MatchResult result (λ d. document_view d ≡ value) (λ e. LacksMemory (refusal_of e)) }
         ensures deeper { (root : Root) (value : Tree) (s : Span) → IsStrictDocument input.now root value → first_beyond depth root ≡ Some s
             → MatchResult result (λ _. ⊥) (λ e. LacksMemory (refusal_of e) ⊎ (refusal_of e ≡ too_deep_at s)) }
-        ensures refused { IfErr result (λ e. LacksMemory (refusal_of e) ⊎ GetsStuckWithin (Some depth) (fresh_in input.now (strict plain)) (refusal_of e)) }
+        ensures refused { IfErr result
+            (λ e. LacksMemory (refusal_of e) ⊎ GetsStuckWithin (Some depth) (fresh_in input.now (strict plain)) (refusal_of e)) }
         ensures within { IfErr result (λ e. RefusalWithin input.now (refusal_of e)) }
     {
         let (nodes, held) = strict_nodes(alloc, input, Some(depth))?;
@@ -237,7 +245,8 @@ fn lenient_nodes<'i, 't>(
 ) -> Result<(Vec<Node<'i>>, Vec<ScalarValue<'i>>), DeserializeError<'t>>
     ensures nodes { IfOk result (λ v. AddsAll (fresh input.now (mode_of mode)) (nodes_view input.now v.1.items v.0.items)) }
     ensures shallow { OnOk result (beyond (future_of (fresh input.now (mode_of mode))) depth ≡ None) }
-    ensures refused { IfErr result (λ e. LacksMemory (refusal_of e) ⊎ GetsStuckWithin depth (fresh input.now (mode_of mode)) (refusal_of e)) }
+    ensures refused { IfErr result
+        (λ e. LacksMemory (refusal_of e) ⊎ GetsStuckWithin depth (fresh input.now (mode_of mode)) (refusal_of e)) }
     ensures within { IfErr result (λ e. RefusalWithin input.now (refusal_of e)) }
 {
     match mode {
@@ -259,7 +268,8 @@ fn strict_nodes<'i, 't>(
 ) -> Result<(Vec<Node<'i>>, Vec<ScalarValue<'i>>), DeserializeError<'t>>
     ensures nodes { IfOk result (λ v. AddsAll (fresh_in input.now (strict plain)) (nodes_view input.now v.1.items v.0.items)) }
     ensures shallow { OnOk result (beyond (future_of (fresh_in input.now (strict plain))) depth ≡ None) }
-    ensures refused { IfErr result (λ e. LacksMemory (refusal_of e) ⊎ GetsStuckWithin depth (fresh_in input.now (strict plain)) (refusal_of e)) }
+    ensures refused { IfErr result
+        (λ e. LacksMemory (refusal_of e) ⊎ GetsStuckWithin depth (fresh_in input.now (strict plain)) (refusal_of e)) }
     ensures within { IfErr result (λ e. RefusalWithin input.now (refusal_of e)) }
 {
     build(

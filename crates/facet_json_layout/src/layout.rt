@@ -39,7 +39,8 @@ impl Layout<'_> {
     /// The text's pieces, in new lines, but for the commas that trail. Each of its tokens is one.
     pub(crate) fn lay_out(&self, alloc: Global) -> Result<Vec<u8>, AllocError>
         requires { all_tokens (pieces (mode_of self.now.mode) self.now.text.now) ≡ true }
-        ensures { IfOk result (λ v. pieces (mode_of self.now.mode) v.items ≡ without_trailing_commas (pieces (mode_of self.now.mode) self.now.text.now)) }
+        ensures { IfOk result
+            (λ v. pieces (mode_of self.now.mode) v.items ≡ without_trailing_commas (pieces (mode_of self.now.mode) self.now.text.now)) }
     {
         let mut out = Sink::new(alloc);
         match self.push_pieces(&mut out) {
@@ -52,7 +53,8 @@ impl Layout<'_> {
     fn push_pieces(&self, out: &mut Sink) -> Result<(), AllocError>
         requires start { out.old ≡ [] }
         requires tokens { all_tokens (pieces (mode_of self.now.mode) self.now.text.now) ≡ true }
-        ensures { OnOk result (pieces (mode_of self.now.mode) out.new ≡ without_trailing_commas (pieces (mode_of self.now.mode) self.now.text.now)) }
+        ensures { OnOk result
+            (pieces (mode_of self.now.mode) out.new ≡ without_trailing_commas (pieces (mode_of self.now.mode) self.now.text.now)) }
     {
         let mut progress = Progress {
             at: 0,

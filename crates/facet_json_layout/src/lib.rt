@@ -1,4 +1,5 @@
-//! Whether an input has a document, of which nothing is kept; an input read into a list of nodes; and a text laid out anew with its comments.
+//! Whether an input has a document, of which nothing is kept; an input read into a list of nodes; and a text laid out anew with its
+//! comments.
 #![tactic(auto)]
 
 mod checking;

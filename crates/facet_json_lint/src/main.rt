@@ -1,7 +1,7 @@
 //! Checks JSON files for a person, reports what is wrong with each where it stands, and lays files out.
 //!
-//! Reports go to the standard output; with `--format`, which may write a text there, to the standard error. The status is 0 where all is fine,
-//! 1 where something is reported, and 2 where the arguments are wrong, or a file can't be read or written.
+//! Reports go to the standard output; with `--format`, which may write a text there, to the standard error. The status is 0 where all is
+//! fine, 1 where something is reported, and 2 where the arguments are wrong, or a file can't be read or written.
 #![tactic(auto)]
 
 mod advice;

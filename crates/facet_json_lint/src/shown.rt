@@ -64,8 +64,8 @@ pub fn shown(alloc: Global, bytes: &[u8]) -> Result<String, AllocError>
     Ok(text)
 }
 
-/// How many columns the text takes on a terminal (Unicode Standard Annex 11): of most characters one, of wide ones and emoji two, and of those
-/// that stand on the one before none.
+/// How many columns the text takes on a terminal (Unicode Standard Annex 11): of most characters one, of wide ones and emoji two, and of
+/// those that stand on the one before none.
 pub fn columns(text: &str) -> usize
     ensures { result ≡ width text.now }
 {

@@ -1,5 +1,5 @@
-//! Blocks of 64 bytes: which of them must be looked at where a container is passed. The other bytes need no look, since they stand in a text
-//! and do not end it, or in a gap, or are digits, commas, colons and quotes.
+//! Blocks of 64 bytes: which of them must be looked at where a container is passed. The other bytes need no look, since they stand in a
+//! text and do not end it, or in a gap, or are digits, commas, colons and quotes.
 
 ghost use Rattle.std.specs.Prelude.{◌≡◌, ◌<◌, ◌+◌, ◌==◌, ℕ, suc, get_or};
 ghost use Rattle.facet_json_parser.specs.Inner.Marks.{test, parity, inside, is_calm, is_marked};

@@ -1,6 +1,7 @@
 //! Where a parser stands: after the last token that was passed, with an event that is read but not passed.
 
-ghost use Rattle.std.specs.Prelude.{◌≡◌, ◌≤◌, ℕ, true, List, None, length, IfOk, IfErr, OnOk, MatchOption, MatchResult, Ok, Err, Some, OnSome, IsUtf8, ◌<◌};
+ghost use Rattle.std.specs.Prelude.{◌≡◌, ◌≤◌, ℕ, true, List, None, length, IfOk, IfErr, OnOk, MatchOption, MatchResult, Ok, Err, Some};
+ghost use Rattle.std.specs.Prelude.{OnSome, IsUtf8, ◌<◌};
 ghost use Rattle.std.specs.Option.{option_map};
 ghost use Rattle.std.specs.VecDeque.{deque_len, deque_capacity};
 ghost use Rattle.facet_json_parser.specs.Ready.{IsSound};
@@ -15,7 +16,8 @@ ghost use Rattle.facet_json_document.specs.Now.{on_input};
 ghost use Rattle.facet_json_reader.specs.PlaceViews.{language_of, refused_of};
 ghost use Rattle.facet_json_reader.specs.Views.{passed_of, IsRefusedBefore};
 ghost use Rattle.facet_json_parser.specs.PartViews.{after_part};
-ghost use Rattle.facet_json_parser.specs.Lookahead.{lookahead_at, lookahead_with, first_lookahead, reader_before, spot_of, HoldsWhatComes, TakesHeld, Lends, Withholds};
+ghost use Rattle.facet_json_parser.specs.Lookahead.{lookahead_at, lookahead_with, first_lookahead, reader_before, spot_of, HoldsWhatComes};
+ghost use Rattle.facet_json_parser.specs.Lookahead.{TakesHeld, Lends, Withholds};
 ghost use Rattle.facet_json_parser.specs.Views.{lookahead_of};
 ghost use Rattle.facet_json_parser.specs.Inner.Wanted.{NeverGives};
 ghost use Rattle.facet_json_reader.specs.Inner.Soughts.{event_of_sought};
@@ -98,7 +100,8 @@ impl<'de> Lookahead<'de> {
         Ok(Some(held.into_event()))
     }
 
-    /// Passes what is wanted and answers it with its span, where no event is held and a few bytes decide that it comes. Else nothing changes.
+    /// Passes what is wanted and answers it with its span, where no event is held and a few bytes decide that it comes. Else nothing
+    /// changes.
     #[inline(always)]
     pub fn step<W: Wanted<'de>>(
         &mut self,
@@ -123,7 +126,8 @@ impl<'de> Lookahead<'de> {
     #[inline(always)]
     pub fn comes_other(&self, input: &[u8], language: Language, sought: Sought) -> bool
         requires sound { IsSound input.now (language_of language) (lookahead_of self.now) }
-        ensures { result ≡ true → NeverGives (event_of_sought sought) (future_at input.now (language_of language) (reader_before (lookahead_of self.now))) }
+        ensures { result ≡ true
+            → NeverGives (event_of_sought sought) (future_at input.now (language_of language) (reader_before (lookahead_of self.now))) }
     {
         self.reader.comes_other(input, language, sought)
     }
@@ -254,8 +258,10 @@ impl<'de> Lookahead<'de> {
         requires within { stop (span_of self.old.reader.last) ≤ length input.now }
         requires free { self.old.held ≡ None }
         ensures free { OnOk result (self.new.held ≡ None) }
-        ensures held { IfOk result (λ o. HoldsWhatComes input.now (language_of language) (lookahead_with (option_map passed_of o) (lookahead_of self.new))) }
-        ensures spot { IfOk result (λ o. spot_of (lookahead_with (option_map passed_of o) (lookahead_of self.new)) ≡ spot_of (lookahead_of self.old)) }
+        ensures held { IfOk result
+            (λ o. HoldsWhatComes input.now (language_of language) (lookahead_with (option_map passed_of o) (lookahead_of self.new))) }
+        ensures spot { IfOk result
+            (λ o. spot_of (lookahead_with (option_map passed_of o) (lookahead_of self.new)) ≡ spot_of (lookahead_of self.old)) }
         ensures over { IfOk result (λ o. o ≡ None
             → future_at input.now (language_of language) (reader_before (lookahead_with None (lookahead_of self.new))) ≡ finished) }
         ensures refused { IfErr result (λ r. (lookahead_of self.new ≡ lookahead_of self.old)

@@ -1,6 +1,7 @@
 //! Passes a container 64 bytes at a time: of each block only the marked bytes are looked at.
 
-ghost use Rattle.std.specs.Prelude.{◌≡◌, ◌≤◌, ◌<◌, ◌+◌, ◌-◌, ◌^◌, ◌==◌, ◌||◌, ℕ, true, false, Bool, suc, length, get_or, slice_get, Some, IfOk};
+ghost use Rattle.std.specs.Prelude.{◌≡◌, ◌≤◌, ◌<◌, ◌+◌, ◌-◌, ◌^◌, ◌==◌, ◌||◌, ℕ, true, false, Bool, suc, length, get_or, slice_get, Some};
+ghost use Rattle.std.specs.Prelude.{IfOk};
 ghost use Rattle.facet_format.specs.Span.{stop, span_at};
 ghost use Rattle.facet_format.specs.Views.{span_of};
 ghost use Rattle.facet_format.specs.Bytes.{is_digit, backslash, dot, is_exponent_mark};
@@ -43,7 +44,8 @@ pub(crate) fn pass_blocks(
 ) -> Result<Passage, Refused>
     requires open { AreOpen contexts.old }
     requires within { stop (span_of from) ≤ length input.now }
-    ensures leads { PassesOn input.now (mode_of mode) contexts.old (span_of from) (span_of last) result contexts.new (λ s. span_of s.passed) }
+    ensures leads { PassesOn input.now (mode_of mode) contexts.old (span_of from) (span_of last) result contexts.new
+        (λ s. span_of s.passed) }
     ensures passage { IfOk result (λ s. IsPassage input.now (mode_of mode) s) }
     ensures onward { IfOk result (λ s. stop (span_of from) ≤ stop (span_of s.passed)) }
 {
@@ -66,7 +68,8 @@ fn pass_block(
     requires open { AreOpen contexts.old }
     requires passage { IsPassage input.now (mode_of mode) passage }
     requires room { passage.at + 64 ≤ length input.now }
-    ensures leads { PassesOn input.now (mode_of mode) contexts.old (span_of passage.passed) (span_of last) result contexts.new (λ s. span_of s.passed) }
+    ensures leads { PassesOn input.now (mode_of mode) contexts.old (span_of passage.passed) (span_of last) result contexts.new
+        (λ s. span_of s.passed) }
     ensures passage { IfOk result (λ s. IsPassage input.now (mode_of mode) s) }
     ensures onward { IfOk result (λ s. (stop (span_of passage.passed) ≤ stop (span_of s.passed)) × (s.goes_on ≡ true
         → (stop (span_of passage.passed) + passage.at < stop (span_of s.passed) + s.at) × AreOpen contexts.new)) }
@@ -106,7 +109,8 @@ fn pass_marks(
     requires bytes { (i : ℕ) → i < 64 → get_or v i 0 ≡ get_or input.now (passage.at + i) 0 }
     requires marks { (i : ℕ) → i < 64 → test marks i ≡ is_marked passage.within v i }
     requires texts { (i : ℕ) → i < 64 → test texts i ≡ inside passage.within v (suc i) }
-    ensures leads { PassesOn input.now (mode_of mode) contexts.old (span_of passage.passed) (span_of last) result contexts.new (λ s. span_of s.passed) }
+    ensures leads { PassesOn input.now (mode_of mode) contexts.old (span_of passage.passed) (span_of last) result contexts.new
+        (λ s. span_of s.passed) }
     ensures passage { IfOk result (λ s. IsPassage input.now (mode_of mode) s) }
     ensures onward { IfOk result (λ s. (stop (span_of passage.passed) ≤ stop (span_of s.passed)) × (s.goes_on ≡ true
         → (stop (span_of passage.passed) + passage.at < stop (span_of s.passed) + s.at) × AreOpen contexts.new)) }
@@ -135,7 +139,8 @@ fn pass_marks(
 /// Goes on behind this token.
 #[inline(always)]
 fn settled_at(passed: Span, goes_on: bool) -> Passage
-    ensures { (result.passed ≡ passed) × (result.within ≡ false) × (result.goes_on ≡ goes_on) × (stop (span_of passed) < 2 ^ 64 → result.at ≡ stop (span_of passed)) }
+    ensures { (result.passed ≡ passed) × (result.within ≡ false) × (result.goes_on ≡ goes_on)
+        × (stop (span_of passed) < 2 ^ 64 → result.at ≡ stop (span_of passed)) }
 {
     Passage {
         passed,
@@ -178,7 +183,8 @@ fn behind_block(input: &[u8], passed: Span, at: usize, within: bool) -> Passage
     requires passed { stop (span_of passed) ≤ at }
     ensures passage { (mode : SpecMode) → IsPassed input.now mode (stop (span_of passed)) at within → IsPassage input.now mode result }
     ensures on { (mode : SpecMode) → IsPassed input.now mode (stop (span_of passed)) at within
-        → RunLeadsOn input.now mode (stop (span_of passed)) (stop (span_of result.passed)) × (span_of result.passed ≡ span_at (stop (span_of result.passed)) 0) }
+        → RunLeadsOn input.now mode (stop (span_of passed)) (stop (span_of result.passed))
+        × (span_of result.passed ≡ span_at (stop (span_of result.passed)) 0) }
     ensures at { result.at ≡ at }
 {
     let settled = settled_before(input, passed.end(), at, within);
@@ -194,7 +200,8 @@ fn behind_block(input: &[u8], passed: Span, at: usize, within: bool) -> Passage
 #[inline(always)]
 fn settled_before(input: &[u8], settled: usize, at: usize, within: bool) -> usize
     requires { (0 < at) × (at ≤ length input.now) }
-    ensures { (mode : SpecMode) → IsPassed input.now mode settled at within → RunLeadsOn input.now mode settled result × IsPassed input.now mode result at within }
+    ensures { (mode : SpecMode) → IsPassed input.now mode settled at within → RunLeadsOn input.now mode settled result
+        × IsPassed input.now mode result at within }
 {
     if within {
         return settled;
@@ -209,7 +216,8 @@ fn settled_before(input: &[u8], settled: usize, at: usize, within: bool) -> usiz
 #[inline(always)]
 fn token_start(input: &[u8], settled: usize, mark: usize) -> usize
     requires { mark < length input.now }
-    ensures on { (mode : SpecMode) → Outside input.now mode settled mark → is_calm (get_or input.now mark 0) ≡ false → RunLeadsOn input.now mode settled result }
+    ensures on { (mode : SpecMode) → Outside input.now mode settled mark → is_calm (get_or input.now mark 0) ≡ false
+        → RunLeadsOn input.now mode settled result }
     ensures near { (result ≤ mark) × (mark ≤ result + 1) }
 {
     if goes_on_number(input[mark]) {

@@ -1,13 +1,15 @@
 //! Reads a document event by event, with a look ahead and points to go back to.
 
-ghost use Rattle.std.specs.Prelude.{◌≡◌, ◌≤◌, ◌+◌, suc, true, List, Some, None, Ok, Err, ◌<◌, length, ◌++◌, OnSome, IfOk, IfErr, IfSome, IfNone, IsSome, IsUtf8, map, codes, MatchOption, MatchResult};
+ghost use Rattle.std.specs.Prelude.{◌≡◌, ◌≤◌, ◌+◌, suc, true, List, Some, None, Ok, Err, ◌<◌, length, ◌++◌, OnSome, IfOk, IfErr, IfSome};
+ghost use Rattle.std.specs.Prelude.{IfNone, IsSome, IsUtf8, map, codes, MatchOption, MatchResult};
 ghost use Rattle.std.specs.Option.{option_map};
 ghost use Rattle.std.specs.VecDeque.{deque_len, deque_capacity};
 ghost use Rattle.facet_format.specs.declared.event.ParseEvent.{ParseEvent as RustEvent};
 ghost use Rattle.facet_format.specs.Cursor.{event, next, peek, events, skip, capture, save, restore, restored, span, spans, refused_at};
 ghost use Rattle.facet_format.specs.Kept.{found, without};
 ghost use Rattle.facet_format.specs.Steps.{IsStep};
-ghost use Rattle.facet_format.specs.Views.{event_of, span_of, parse_refusal, answer_of_event, answer_of_events, answer_of_skip, answer_of_capture, answer_of_save, answer_of_span};
+ghost use Rattle.facet_format.specs.Views.{event_of, span_of, parse_refusal, answer_of_event, answer_of_events, answer_of_skip};
+ghost use Rattle.facet_format.specs.Views.{answer_of_capture, answer_of_save, answer_of_span};
 ghost use Rattle.facet_json_token.specs.Gap.{plain, jsonc};
 ghost use Rattle.facet_json_document.specs.Language.{strict};
 ghost use Rattle.facet_json_document.specs.Future.{finished};
@@ -142,8 +144,8 @@ impl<'de> JsonParser<'de> {
         JsonParser::in_language(alloc, input, Language::Lenient(Mode::Jsonc), Trust::Utf8)
     }
 
-    /// A parser of a text that is one of RFC 8259 alone: no comma trails, strings and numbers are as the RFC has them, and nothing but white
-    /// space stands behind the root. It does not allocate.
+    /// A parser of a text that is one of RFC 8259 alone: no comma trails, strings and numbers are as the RFC has them, and nothing but
+    /// white space stands behind the root. It does not allocate.
     pub fn new_strict(alloc: Global, input: &'de [u8]) -> JsonParser<'de>
         ensures { result ≡ fresh_in input.now (strict plain) }
     {

@@ -38,7 +38,8 @@ pub fn find(reader: &Reader, input: &[u8], language: Language) -> Result<Part, R
     ensures found { (stack : List SpecContainer)
         → IfOk result (IsFirst input.now (language_of language) (record (reader_of reader.now) { stack = stack })) }
     ensures nothing { (stack : List SpecContainer)
-        → IfErr result (λ r. PartAt input.now (language_of language) (record (reader_of reader.now) { stack = stack }) (nothing (refused_of r))) }
+        → IfErr result (λ r. PartAt input.now (language_of language) (record (reader_of reader.now) { stack = stack })
+        (nothing (refused_of r))) }
     ensures within { IfOk result (λ part. stop (first_span_of part) ≤ length input.now) }
 {
     let Stage::Within(mut place) = reader.stage else {

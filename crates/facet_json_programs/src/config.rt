@@ -1,5 +1,5 @@
-//! Reads the configuration file of a server, JSON with comments, and prints the settings with what was left out filled in. Where something is
-//! wrong with the file, it says what, and shows the place. `config [FILE]`: without a file it reads the standard input.
+//! Reads the configuration file of a server, JSON with comments, and prints the settings with what was left out filled in. Where something
+//! is wrong with the file, it says what, and shows the place. `config [FILE]`: without a file it reads the standard input.
 
 use crate::input::{name_of, text_of};
 use crate::settings::{Settings, read_settings};
@@ -34,8 +34,8 @@ fn answer(rt: &HostRuntime, name: &str, text: &str) -> io::Result<u8> {
     }
 }
 
-/// Reads the file, and prints its settings or what is wrong with it. What is answered is the status: 0 where the settings are printed, 1 where
-/// something is wrong with them, and 2 where the file can't be read.
+/// Reads the file, and prints its settings or what is wrong with it. What is answered is the status: 0 where the settings are printed, 1
+/// where something is wrong with them, and 2 where the file can't be read.
 pub fn run(rt: &HostRuntime, file: Option<&str>) -> io::Result<u8> {
     match text_of(rt, file)? {
         Some(text) => answer(rt, name_of(file), text.as_str()),

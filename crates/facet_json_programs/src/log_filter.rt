@@ -1,5 +1,5 @@
-//! Copies the records of logs that have a member of a value, a record a line: `log_filter --where NAME=VALUE [FILE..]`. Without a file it reads
-//! the standard input.
+//! Copies the records of logs that have a member of a value, a record a line: `log_filter --where NAME=VALUE [FILE..]`. Without a file it
+//! reads the standard input.
 
 use crate::filter::{Wanted, filter};
 use std::io::{BufReader, BufWriter, Write};
@@ -22,7 +22,8 @@ fn filter_input<W: Write>(
     )
 }
 
-/// Filters the file of this name. What is answered is whether each line is a record, or `None` where the file can't be opened, which is told.
+/// Filters the file of this name. What is answered is whether each line is a record, or `None` where the file can't be opened, which is
+/// told.
 fn filter_file<W: Write>(
     rt: &HostRuntime,
     file: &str,

@@ -62,7 +62,8 @@ fn count(counts: &mut Vec<usize>, limits: Limits, span: Span) -> Checked
     }
 }
 
-/// Checks an event against the limits. There is a count for each container that is open, of its values so far: no more than the limits allow.
+/// Checks an event against the limits. There is a count for each container that is open, of its values so far: no more than the limits
+/// allow.
 fn check_event(counts: &mut Vec<usize>, limits: Limits, event: &ParseEvent<'_>) -> Checked
     ensures within { length counts.old.items ≤ limits.depth → OnOk result (length counts.new.items ≤ limits.depth) }
 {

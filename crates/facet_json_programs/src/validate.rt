@@ -100,8 +100,8 @@ fn check(
     Ok(if is_fine { 0 } else { 1 })
 }
 
-/// Checks the file that is named, or the standard input. What is answered is the status: 0 where all is as it should be, 1 where something isn't, 2
-/// where the file can't be read; or `None` where the arguments are none of this program.
+/// Checks the file that is named, or the standard input. What is answered is the status: 0 where all is as it should be, 1 where something
+/// isn't, 2 where the file can't be read; or `None` where the arguments are none of this program.
 pub fn run(rt: &HostRuntime, args: &[String]) -> io::Result<Option<u8>> {
     let Some((limits, file)) = limits_of(args) else {
         return Ok(None);

@@ -65,7 +65,8 @@ fn string_event<'de>(
     requires utf8 { trust ≡ Trust.Utf8 → IsUtf8 input.now }
     requires reaches { Reaches input.now (language_of language) reader.old (place_of ahead.place) ahead.at }
     ensures { MatchOption result (reader.new ≡ reader.old)
-        (λ r. PassesQuickly input.now (language_of language) reader.old (record { kind = event_kind_of r.0; span = span_of r.1 }) reader.new) }
+        (λ r. PassesQuickly input.now (language_of language) reader.old
+        (record { kind = event_kind_of r.0; span = span_of r.1 }) reader.new) }
 {
     let (end, text) = text_at(input, language, trust, ahead.at)?;
     match ahead.place.turn_by(Sort::Text) {
@@ -108,7 +109,8 @@ fn value_event<'de>(
     requires here { slice_get input.now ahead.at ≡ Some ahead.first }
     requires reaches { Reaches input.now (language_of language) reader.old (place_of ahead.place) ahead.at }
     ensures { MatchOption result (reader.new ≡ reader.old)
-        (λ r. PassesQuickly input.now (language_of language) reader.old (record { kind = event_kind_of r.0; span = span_of r.1 }) reader.new) }
+        (λ r. PassesQuickly input.now (language_of language) reader.old
+        (record { kind = event_kind_of r.0; span = span_of r.1 }) reader.new) }
 {
     if !ahead.is_value() {
         return None;
@@ -123,7 +125,8 @@ fn value_event<'de>(
 #[inline(always)]
 fn start_event<'de>(reader: &mut Reader, kind: ContainerKind, at: usize) -> Option<Told<'de>>
     ensures { (buffer : List ℕ) (language : SpecLanguage) (place : SpecPlace) → MayBeValue place
-        → slice_get buffer at ≡ Some (opening_bracket kind) → Reaches buffer language reader.old place at → MatchOption result (reader.new ≡ reader.old)
+        → slice_get buffer at ≡ Some (opening_bracket kind) → Reaches buffer language reader.old place at
+        → MatchOption result (reader.new ≡ reader.old)
         (λ r. PassesQuickly buffer language reader.old (record { kind = event_kind_of r.0; span = span_of r.1 }) reader.new) }
 {
     let span = reader.pass_opening(kind, at)?;
@@ -142,7 +145,8 @@ fn scalar_event<'de>(
     requires { slice_get input.now at ≡ Some first }
     ensures { (place : SpecPlace) → MayBeValue place → Reaches input.now (language_of language) reader.old place at
         → MatchOption result (reader.new ≡ reader.old)
-        (λ r. PassesQuickly input.now (language_of language) reader.old (record { kind = event_kind_of r.0; span = span_of r.1 }) reader.new) }
+        (λ r. PassesQuickly input.now (language_of language) reader.old
+        (record { kind = event_kind_of r.0; span = span_of r.1 }) reader.new) }
 {
     match first {
         b't' => {
@@ -175,7 +179,8 @@ fn number_event<'de>(
     requires number { start_of first ≡ opens_number }
     ensures { (place : SpecPlace) → MayBeValue place → Reaches input.now (language_of language) reader.old place at
         → MatchOption result (reader.new ≡ reader.old)
-        (λ r. PassesQuickly input.now (language_of language) reader.old (record { kind = event_kind_of r.0; span = span_of r.1 }) reader.new) }
+        (λ r. PassesQuickly input.now (language_of language) reader.old
+        (record { kind = event_kind_of r.0; span = span_of r.1 }) reader.new) }
 {
     let (len, whole) = short_number_in(input, language, at, first)?;
     match whole {
@@ -201,8 +206,10 @@ fn decimal_event<'de>(
     ensures kind { IfSome result (λ r. event_kind_of r.0 ≡ scalar (decimal (borrowed (slice_range input.now at (at + len))))) }
     ensures span { IfSome result (λ r. span_of r.1 ≡ span_at at len) }
     ensures leaves { MatchOption result (reader.new ≡ reader.old)
-        (λ _. Leaves reader.old (scalar (decimal (borrowed (slice_range input.now at (at + len))))) (span_at at len) (span_at at len) reader.new) }
-    ensures number { let text = slice_range input.now at (at + len) in IfSome result (λ _. spec_number text float ≡ Some (spec_decimal text)) }
+        (λ _. Leaves reader.old (scalar (decimal (borrowed (slice_range input.now at (at + len))))) (span_at at len)
+        (span_at at len) reader.new) }
+    ensures number { let text = slice_range input.now at (at + len)
+        in IfSome result (λ _. spec_number text float ≡ Some (spec_decimal text)) }
 {
     let event = decimal_event_by_call(reader, input, at, len);
     event
@@ -221,8 +228,10 @@ fn decimal_event_by_call<'de>(
     ensures kind { IfSome result (λ r. event_kind_of r.0 ≡ scalar (decimal (borrowed (slice_range input.now at (at + len))))) }
     ensures span { IfSome result (λ r. span_of r.1 ≡ span_at at len) }
     ensures leaves { MatchOption result (reader.new ≡ reader.old)
-        (λ _. Leaves reader.old (scalar (decimal (borrowed (slice_range input.now at (at + len))))) (span_at at len) (span_at at len) reader.new) }
-    ensures number { let text = slice_range input.now at (at + len) in IfSome result (λ _. spec_number text float ≡ Some (spec_decimal text)) }
+        (λ _. Leaves reader.old (scalar (decimal (borrowed (slice_range input.now at (at + len))))) (span_at at len)
+        (span_at at len) reader.new) }
+    ensures number { let text = slice_range input.now at (at + len)
+        in IfSome result (λ _. spec_number text float ≡ Some (spec_decimal text)) }
 {
     let decimal = decimal_at(input, at, len)?;
     let span = Span::new(at, len);

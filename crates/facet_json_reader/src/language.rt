@@ -93,7 +93,8 @@ fn cut_strict(buffer: &[u8], position: usize, mode: Mode) -> CutResult
 /// Whether RFC 8259 has a token, as far as it is told before it is decoded.
 fn judge(buffer: &[u8], token: &SpannedToken) -> Result<(), Fault>
     requires { HasSlices buffer.now token.now.span token.now.token }
-    ensures judged { IfSome (kind_of token.now.token) (λ k. IsJudged buffer.now (record { kind = k; span = span_of token.now.span }) result) }
+    ensures judged { IfSome (kind_of token.now.token)
+        (λ k. IsJudged buffer.now (record { kind = k; span = span_of token.now.span }) result) }
     ensures some { IfErr result (λ _. IsSome (kind_of token.now.token)) }
 {
     match token.token {

@@ -1,5 +1,6 @@
 //! The next event of a document, `Reader`: at once where a few bytes decide it (`Wanted`), and else from the tokens (`upcoming`); in
-//! which `Language`, inside which open containers (`Contexts`), at which `Place` within the innermost one, and how it is refused (`Refused`).
+//! which `Language`, inside which open containers (`Contexts`), at which `Place` within the innermost one, and how it is refused
+//! (`Refused`).
 #![tactic(auto)]
 
 mod contexts;

@@ -11,7 +11,8 @@ ghost use Rattle.facet_json_document.specs.Meaning.{meaning_of};
 ghost use Rattle.facet_json_document.specs.Place.{kind_name};
 ghost use Rattle.facet_json_document.specs.Walk.{scalar_of};
 ghost use Rattle.facet_json_reader.specs.PlaceViews.{refused_of, name_text, is_string_token};
-ghost use Rattle.facet_json_reader.specs.TokenViews.{number_in, holds_made_text, CanBeRead, IsContent, IsReadAs, IsReadOrUnmade, IsTextOf, IsUnmade, IsMeaningless};
+ghost use Rattle.facet_json_reader.specs.TokenViews.{number_in, holds_made_text, CanBeRead, IsContent, IsReadAs, IsReadOrUnmade, IsTextOf};
+ghost use Rattle.facet_json_reader.specs.TokenViews.{IsUnmade, IsMeaningless};
 
 use crate::refusal::{Name, Refused, Why};
 use facet_format::{Decimal, ScalarValue, Span};

@@ -1,6 +1,7 @@
 //! Numbers that are read without an allocation, from their bytes: eight digits by one word, whole numbers, and all others by their parts.
 
-ghost use Rattle.std.specs.Prelude.{◌≡◌, ◌+◌, ◌≤◌, true, false, Some, length, drop, slice_get, slice_range, IfSome, OnSome, ℕ, ◌<◌, ◌^◌, take, ◌≢◌, ◌==◌, ◌||◌, pos, neg_ℤ, map};
+ghost use Rattle.std.specs.Prelude.{◌≡◌, ◌+◌, ◌≤◌, true, false, Some, length, drop, slice_get, slice_range, IfSome, OnSome, ℕ, ◌<◌, ◌^◌};
+ghost use Rattle.std.specs.Prelude.{take, ◌≢◌, ◌==◌, ◌||◌, pos, neg_ℤ, map};
 ghost use Rattle.facet_format.specs.Number.{AreDigits, float};
 ghost use Rattle.facet_format.specs.NumberValue.{digits_value, number as spec_number, decimal as spec_decimal};
 ghost use Rattle.facet_format.specs.Event.{decimal, borrowed};
@@ -215,7 +216,8 @@ fn whole_in(number: ParsedNumber<'_>) -> Option<Whole>
     }
 }
 
-/// The length and the value of the number with a fraction or an exponent at `at`, of which this is the first byte, where the language allows it.
+/// The length and the value of the number with a fraction or an exponent at `at`, of which this is the first byte, where the language
+/// allows it.
 #[inline(always)]
 pub(crate) fn short_decimal_in<'de>(
     input: &'de [u8],

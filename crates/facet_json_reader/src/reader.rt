@@ -12,9 +12,11 @@ ghost use Rattle.facet_json_token.specs.Views.{kind_of, mode_of};
 ghost use Rattle.facet_json_document.specs.Future.{after_value, around, behind_root, finished, stage_after, within};
 ghost use Rattle.facet_json_document.specs.Place.{Place as SpecPlace, expected_at, goes_on};
 ghost use Rattle.facet_json_document.specs.Reader.{first_reader, past};
-ghost use Rattle.facet_json_reader.specs.PlaceViews.{language_of, place_of, expected_text, refused_of, opening_event, closing_event, is_string_token};
+ghost use Rattle.facet_json_reader.specs.PlaceViews.{language_of, place_of, expected_text, refused_of, opening_event, closing_event};
+ghost use Rattle.facet_json_reader.specs.PlaceViews.{is_string_token};
 ghost use Rattle.facet_json_reader.specs.TokenViews.{CanBeRead, IsMeaningless};
-ghost use Rattle.facet_json_reader.specs.Views.{stage_of, passed_of, reader_of, with_opened, comes_at, StopsAt, IsNamed, IsTurn, IsValueOf, IsNameOf, IsColonAt, IsRefusedBefore, Answers, IsUpcoming};
+ghost use Rattle.facet_json_reader.specs.Views.{stage_of, passed_of, reader_of, with_opened, comes_at, StopsAt, IsNamed, IsTurn, IsValueOf};
+ghost use Rattle.facet_json_reader.specs.Views.{IsNameOf, IsColonAt, IsRefusedBefore, Answers, IsUpcoming};
 
 use crate::contexts::Contexts;
 use crate::language::Language;
@@ -245,7 +247,8 @@ fn event<'de>(kind: ParseEventKind<'de>, span: Span, last: Span) -> Held<'de>
 #[inline(always)]
 fn end(input: &[u8], language: Language, last: Span) -> Result<(), Refused>
     requires { stop (span_of last) ≤ length input.now }
-    ensures { let behind = behind_root (rules (language_of language)) (tokens_in (language_of language) input.now (stop (span_of last))) in MatchResult result
+    ensures { let behind = behind_root (rules (language_of language)) (tokens_in (language_of language) input.now (stop (span_of last)))
+        in MatchResult result
         (λ _. behind ≡ finished)
         (λ r. IsRefusedBefore input.now (span_of last) behind (refused_of r)) }
 {
@@ -259,7 +262,8 @@ fn end(input: &[u8], language: Language, last: Span) -> Result<(), Refused>
 #[inline(never)]
 fn end_strict(input: &[u8], mode: Mode, last: Span) -> Result<(), Refused>
     requires { stop (span_of last) ≤ length input.now }
-    ensures { let behind = behind_root strict_rules (tokens_in (strict (mode_of mode)) input.now (stop (span_of last))) in MatchResult result
+    ensures { let behind = behind_root strict_rules (tokens_in (strict (mode_of mode)) input.now (stop (span_of last)))
+        in MatchResult result
         (λ _. behind ≡ finished)
         (λ r. IsRefusedBefore input.now (span_of last) behind (refused_of r)) }
 {

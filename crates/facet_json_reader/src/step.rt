@@ -1,5 +1,5 @@
-//! One step of the reader, where a few bytes decide it: where the next token begins, and each way past it. Where they do not decide, nothing changes,
-//! and the tokens decide, in `reader`.
+//! One step of the reader, where a few bytes decide it: where the next token begins, and each way past it. Where they do not decide,
+//! nothing changes, and the tokens decide, in `reader`.
 
 ghost use Rattle.std.specs.Prelude.{◌≡◌, ◌≤◌, ◌<◌, ◌+◌, ℕ, List, Some, false, true, length, slice_get, slice_range, IfSome, MatchOption};
 ghost use Rattle.facet_format.specs.Event.{Scalar, Text, scalar, field_key, borrowed};
@@ -8,7 +8,8 @@ ghost use Rattle.facet_format.specs.Views.{span_of};
 ghost use Rattle.facet_json_token.specs.Token.{string};
 ghost use Rattle.facet_json_document.specs.Language.{Language as SpecLanguage};
 ghost use Rattle.facet_json_document.specs.Place.{Place as SpecPlace, names, place_turn};
-ghost use Rattle.facet_json_reader.specs.PlaceViews.{language_of, least_of, place_of, opening_event, closing_event, closing_token, opening_bracket, closing_bracket};
+ghost use Rattle.facet_json_reader.specs.PlaceViews.{language_of, least_of, place_of, opening_event, closing_event, closing_token};
+ghost use Rattle.facet_json_reader.specs.PlaceViews.{opening_bracket, closing_bracket};
 ghost use Rattle.facet_json_reader.specs.Values.{AreUnescaped, IsPlainText};
 ghost use Rattle.facet_json_reader.specs.Inner.Quick.{MayBeValue, Reaches, IsWord, Leaves, PassesQuickly};
 ghost use Rattle.facet_json_reader.specs.Inner.Sorts.{kind_by};
@@ -88,7 +89,8 @@ impl Reader {
     #[inline(always)]
     pub(crate) fn value_start(&self, input: &[u8], language: Language) -> Option<(usize, u8)>
         requires within { stop (span_of self.now.last) ≤ length input.now }
-        ensures reaches { IfSome result (λ r. (place : SpecPlace) × MayBeValue place × Reaches input.now (language_of language) self.now place r.0) }
+        ensures reaches { IfSome result
+            (λ r. (place : SpecPlace) × MayBeValue place × Reaches input.now (language_of language) self.now place r.0) }
         ensures here { IfSome result (λ r. slice_get input.now r.0 ≡ Some r.1) }
     {
         let ahead = self.ahead(input, language)?;
@@ -140,7 +142,8 @@ impl Reader {
     ) -> Option<Span>
         requires within { stop (span_of self.old.last) ≤ length input.now }
         ensures { MatchOption result (self.new ≡ self.old)
-            (λ s. PassesQuickly input.now (language_of language) self.old (record { kind = opening_event kind; span = span_of s }) self.new) }
+            (λ s. PassesQuickly input.now (language_of language) self.old
+            (record { kind = opening_event kind; span = span_of s }) self.new) }
     {
         let (at, first) = self.value_start(input, language)?;
         if first != first_byte(kind) {
@@ -153,7 +156,8 @@ impl Reader {
     #[inline(always)]
     pub(crate) fn pass_opening(&mut self, kind: ContainerKind, at: usize) -> Option<Span>
         ensures { (buffer : List ℕ) (language : SpecLanguage) (place : SpecPlace) → MayBeValue place
-            → slice_get buffer at ≡ Some (opening_bracket kind) → Reaches buffer language self.old place at → MatchOption result (self.new ≡ self.old)
+            → slice_get buffer at ≡ Some (opening_bracket kind) → Reaches buffer language self.old place at
+            → MatchOption result (self.new ≡ self.old)
             (λ s. PassesQuickly buffer language self.old (record { kind = opening_event kind; span = span_of s }) self.new) }
     {
         self.move_past_start(kind, at)
@@ -170,9 +174,11 @@ impl Reader {
     ) -> Option<Span>
         requires within { (at < end) × (end < length input.now) }
         requires unescaped { AreUnescaped (least_of (language_of language)) (slice_range input.now (at + 1) end) }
-        ensures { (place : SpecPlace) (name : List ℕ) → place_turn place (string (at + 1) end false) ≡ names → IsPlainText input.now at end name
+        ensures { (place : SpecPlace) (name : List ℕ) → place_turn place (string (at + 1) end false) ≡ names
+            → IsPlainText input.now at end name
             → Reaches input.now (language_of language) self.old place at → MatchOption result (self.new ≡ self.old)
-            (λ s. PassesQuickly input.now (language_of language) self.old (record { kind = field_key (borrowed name); span = span_of s }) self.new) }
+            (λ s. PassesQuickly input.now (language_of language) self.old
+            (record { kind = field_key (borrowed name); span = span_of s }) self.new) }
     {
         let colon = empty_gap_end(input, end + 1, language.mode());
         match input.get(colon) {

@@ -1,6 +1,7 @@
 //! Texts without an escape, from their bytes, thirty-two at a time.
 
-ghost use Rattle.std.specs.Prelude.{◌≡◌, ◌<◌, ◌+◌, ℕ, Bool, true, not, length, Some, slice_get, slice_range, IfSome, IsUtf8, ◌≤◌, drop, map};
+ghost use Rattle.std.specs.Prelude.{◌≡◌, ◌<◌, ◌+◌, ℕ, Bool, true, not, length, Some, slice_get, slice_range, IfSome, IsUtf8, ◌≤◌, drop};
+ghost use Rattle.std.specs.Prelude.{map};
 ghost use Rattle.facet_format.specs.Bytes.{quote, space};
 ghost use Rattle.facet_json_reader.specs.PlaceViews.{language_of, least_of};
 ghost use Rattle.facet_json_reader.specs.Values.{AreUnescaped, IsClosedAt, IsPlainText};

@@ -1,5 +1,5 @@
-//! What a caller wants next, passed without its event being made: the payload alone is answered. Where a few bytes do not decide that it comes,
-//! nothing is done.
+//! What a caller wants next, passed without its event being made: the payload alone is answered. Where a few bytes do not decide that it
+//! comes, nothing is done.
 
 ghost use Rattle.std.specs.Prelude.{◌≡◌, ◌≤◌, length, IsUtf8, MatchOption};
 ghost use Rattle.facet_format.specs.Span.{stop};

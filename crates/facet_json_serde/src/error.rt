@@ -16,7 +16,8 @@ use std::fmt;
 /// What is wrong. Displayed, it is a message of one line for a person.
 #[derive(Debug, Clone, Copy, Drop)]
 pub enum ErrorKind<'t> {
-    /// The input is no JSON, it ends too soon, a value is of another type or too great, or an allocation failed: what this library's readers say.
+    /// The input is no JSON, it ends too soon, a value is of another type or too great, or an allocation failed: what this library's
+    /// readers say.
     Read(DeserializeErrorKind<'t>),
     /// More than white space stands after the document.
     TrailingCharacters,
@@ -34,7 +35,8 @@ pub enum ErrorKind<'t> {
     InvalidValue,
     /// A key that is no string.
     KeyMustBeAString,
-    /// What a type sent to be written is not one value: a value without a key, a key without a value, two roots, a container that stays open.
+    /// What a type sent to be written is not one value: a value without a key, a key without a value, two roots, a container that stays
+    /// open.
     NotOneValue,
     /// What a reader or a writer of a type says.
     Custom(Detail),
@@ -165,8 +167,8 @@ impl Error<'static> {
     }
 }
 
-/// An error with the source that its span is of. Displayed, it is the message, the line and the column, then the line itself, and carets below
-/// what is meant. An error without a span is its message alone.
+/// An error with the source that its span is of. Displayed, it is the message, the line and the column, then the line itself, and carets
+/// below what is meant. An error without a span is its message alone.
 #[derive(Debug, Clone, Copy, Drop)]
 pub struct Report<'a> {
     /// The error.

@@ -221,7 +221,8 @@ pub enum Refusal {
     OutOfMemory,
 }
 
-/// The error of `JsonWriter`'s steps: small, since each step of each type hands it on. `Error` is the same with its words, by `Error::from`.
+/// The error of `JsonWriter`'s steps: small, since each step of each type hands it on. `Error` is the same with its words, by
+/// `Error::from`.
 #[derive(Debug)]
 pub enum WriteFault {
     /// The writer refuses.

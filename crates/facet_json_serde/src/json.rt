@@ -86,8 +86,8 @@ struct Marked<'de> {
 
 /// JSON as a `Format` of `serde`'s, for a caller who has a parser. `from_slice` and its kin make one.
 ///
-/// A step that ends well says which event of the parser's came, and that it is what was read (`Gives`, `Picks`, `Stays` in `Ahead`): so a type that is
-/// read by hand can say the same. A skip, and a return to a mark, say nothing of where the format stands.
+/// A step that ends well says which event of the parser's came, and that it is what was read (`Gives`, `Picks`, `Stays` in `Ahead`): so a
+/// type that is read by hand can say the same. A skip, and a return to a mark, say nothing of where the format stands.
 ///
 /// ```text
 /// let mut json = Json::new(alloc, JsonParser::new(alloc, input));
@@ -168,7 +168,8 @@ impl<'de> Json<'de> {
     ///
     /// # Errors
     ///
-    /// Another type, where `end of input` is expected, if more of the document comes; what the parser refuses; or the fault for which reading stopped.
+    /// Another type, where `end of input` is expected, if more of the document comes; what the parser refuses; or the fault for which
+    /// reading stopped.
     pub fn finish(&mut self) -> Result<(), ReadFault> {
         match &self.ahead {
             Ahead::Nothing | Ahead::Back => {}
@@ -298,7 +299,8 @@ impl<'de> Json<'de> {
     #[inline(always)]
     pub(crate) fn wanted<W: Wanted<'de>>(&mut self) -> Option<W>
         ensures { MatchOption result (self.new ≡ self.old)
-            (λ w. StepPasses self.old (record { kind = W.kind w; span = span_of self.new.last }) self.new × (self.new.ahead ≡ Ahead.Nothing)) }
+            (λ w. StepPasses self.old (record { kind = W.kind w; span = span_of self.new.last }) self.new
+            × (self.new.ahead ≡ Ahead.Nothing)) }
     {
         let Ahead::Nothing = &self.ahead else {
             return None;
@@ -312,7 +314,8 @@ impl<'de> Json<'de> {
     #[inline(always)]
     pub(crate) fn plain<W: Wanted<'de>>(&mut self) -> Option<W>
         ensures { MatchOption result (self.new ≡ self.old)
-            (λ w. StepPasses self.old (record { kind = W.kind w; span = span_of self.new.last }) self.new × (self.new.ahead ≡ Ahead.Nothing)) }
+            (λ w. StepPasses self.old (record { kind = W.kind w; span = span_of self.new.last }) self.new
+            × (self.new.ahead ≡ Ahead.Nothing)) }
     {
         if self.at_key {
             return None;
@@ -451,7 +454,8 @@ impl<'de> Json<'de> {
     #[inline(always)]
     fn member(&mut self) -> Option<Member<'de>>
         ensures { MatchOption result (self.new ≡ self.old)
-            (λ m. StepPasses self.old (record { kind = event_of_member m; span = span_of self.new.last }) self.new × (self.new.ahead ≡ Ahead.Nothing)) }
+            (λ m. StepPasses self.old (record { kind = event_of_member m; span = span_of self.new.last }) self.new
+            × (self.new.ahead ≡ Ahead.Nothing)) }
     {
         self.wanted()
     }

@@ -1,7 +1,7 @@
-//! JSON text to values of every type that the toolchain's crate `serde` reads, and back: `facet_json`'s parser and serializer as a `Format` and a
-//! `Serializer` of `serde`'s. So a type with `#[derive(Serialize, Deserialize)]` is read by `from_slice` and its kin, and written by `to_vec` and
-//! its kin, with no proof of the user's. What is written is the text of one tree, whatever the type does (`IsTextOfTree`). Which value is read is
-//! promised of no derived type: `facet_json::Facet` is the way with that theorem.
+//! JSON text to values of every type that the toolchain's crate `serde` reads, and back: `facet_json`'s parser and serializer as a `Format`
+//! and a `Serializer` of `serde`'s. So a type with `#[derive(Serialize, Deserialize)]` is read by `from_slice` and its kin, and written by
+//! `to_vec` and its kin, with no proof of the user's. What is written is the text of one tree, whatever the type does (`IsTextOfTree`).
+//! Which value is read is promised of no derived type: `facet_json::Facet` is the way with that theorem.
 #![tactic(auto)]
 
 mod error;

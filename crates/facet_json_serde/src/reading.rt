@@ -10,8 +10,8 @@ use facet_json_parser::JsonParser;
 use serde::{Deserialize, Deserializer, Format};
 use std::alloc::Global;
 
-/// Reads the value of the document that the bytes begin with (RFC 8259, sections 2 to 7, with lenient readings such as a trailing comma). It may
-/// borrow of the input. What follows the document is not looked at.
+/// Reads the value of the document that the bytes begin with (RFC 8259, sections 2 to 7, with lenient readings such as a trailing comma).
+/// It may borrow of the input. What follows the document is not looked at.
 ///
 /// ```text
 /// from_slice::<u8>(alloc, b" 7 ")        Ok: 7
@@ -20,8 +20,8 @@ use std::alloc::Global;
 ///
 /// # Errors
 ///
-/// The document is no value of the type; the input begins with none, as far as it was looked at; or an allocation failed. What the type passes
-/// unread, as the value of an unknown field, is only held to its brackets and tokens.
+/// The document is no value of the type; the input begins with none, as far as it was looked at; or an allocation failed. What the type
+/// passes unread, as the value of an unknown field, is only held to its brackets and tokens.
 pub fn from_slice<'t, 'de, T: Deserialize<'de>>(
     alloc: Global,
     input: &'de [u8],
@@ -49,8 +49,8 @@ pub fn from_slice_jsonc<'t, 'de, T: Deserialize<'de>>(
     first_value(alloc, input, JsonParser::new_jsonc(alloc, input))
 }
 
-/// Reads the value of the bytes, which are one text of RFC 8259 alone: nothing lenient is read, and only white space stands around it. Within
-/// what the type passes unread, texts, numbers and commas are not looked at.
+/// Reads the value of the bytes, which are one text of RFC 8259 alone: nothing lenient is read, and only white space stands around it.
+/// Within what the type passes unread, texts, numbers and commas are not looked at.
 ///
 /// ```text
 /// from_slice_strict::<u8>(alloc, b" 7 ")       Ok: 7

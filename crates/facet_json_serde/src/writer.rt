@@ -28,8 +28,8 @@ use std::fmt::Write;
 ///
 /// # Errors
 ///
-/// A call that no value goes on with is refused as not one value, and a container or null as a key: so a value stands after a key or in a list,
-/// and there is one root alone. After a refusal, out of memory too, nothing is given out.
+/// A call that no value goes on with is refused as not one value, and a container or null as a key: so a value stands after a key or in a
+/// list, and there is one root alone. After a refusal, out of memory too, nothing is given out.
 pub struct JsonWriter<'i> {
     alloc: Global,
     value: OneValue<'i>,
@@ -78,13 +78,13 @@ impl<'i> JsonWriter<'i> {
         }
     }
 
-    /// The text of the value, in the layout of these options, which have to be those that it began with: that it still has them is compared,
-    /// since no contract says what a type does to its writer.
+    /// The text of the value, in the layout of these options, which have to be those that it began with: that it still has them is
+    /// compared, since no contract says what a type does to its writer.
     ///
     /// # Errors
     ///
-    /// The first fault that a call was refused with, even if the type passed over it. Not one value, where nothing was written or a container is
-    /// open, or where the options are others.
+    /// The first fault that a call was refused with, even if the type passed over it. Not one value, where nothing was written or a
+    /// container is open, or where the options are others.
     pub fn finish(self, options: &SerializeOptions<'_>) -> Result<Vec<u8>, Refusal>
         ensures { IfOk result (λ v. IsTextOfTree (options_of options.now) v.items) }
     {

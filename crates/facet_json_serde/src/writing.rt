@@ -12,8 +12,8 @@ use facet_json_serializer::SerializeOptions;
 use serde::Serialize;
 use std::alloc::Global;
 
-/// The compact text of a value (RFC 8259, sections 2 to 7): no white space, and each character that has no escape as its UTF-8. What is written is
-/// the text of one tree, whatever the type does to its writer.
+/// The compact text of a value (RFC 8259, sections 2 to 7): no white space, and each character that has no escape as its UTF-8. What is
+/// written is the text of one tree, whatever the type does to its writer.
 ///
 /// ```text
 /// to_vec(alloc, &(true, 0.5, "x"))?   b"[true,0.5,\"x\"]"
@@ -21,8 +21,8 @@ use std::alloc::Global;
 ///
 /// # Errors
 ///
-/// `NotOneValue` and `KeyMustBeAString`, where what the type writes is not one JSON value; what the type says; `OutOfMemory`. Nothing is given
-/// out then.
+/// `NotOneValue` and `KeyMustBeAString`, where what the type writes is not one JSON value; what the type says; `OutOfMemory`. Nothing is
+/// given out then.
 pub fn to_vec<'t, T: Serialize>(alloc: Global, value: &T) -> Result<Vec<u8>, Error<'t>>
     ensures { IfOk result (λ v. IsTextOfTree default_options v.items) }
 {

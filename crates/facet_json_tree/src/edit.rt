@@ -144,7 +144,8 @@ fn push_member(
     value: Tree,
 ) -> Result<Option<Tree>, NotStored>
     requires { last_member (string_bytes name) (pairs_view members.old.items) ≡ None }
-    ensures stored { OnOk result (pairs_view members.new.items ≡ set_member (string_bytes name) (tree_view value) (pairs_view members.old.items)) }
+    ensures stored { OnOk result
+        (pairs_view members.new.items ≡ set_member (string_bytes name) (tree_view value) (pairs_view members.old.items)) }
     ensures new { IfOk result (λ had. had ≡ None) }
     ensures refused { IfErr result (λ e. tree_view (value_of e) ≡ tree_view value) }
     ensures unchanged { OnErr result (members.new.items ≡ members.old.items) }

@@ -68,7 +68,9 @@ fn index_or_insert(
     key: &str,
     value: Tree,
 ) -> Result<usize, NotStored>
-    ensures held { IfOk result (HoldsAt (λ m. tree_view m.1 ≡ unwrap_or (last_member key.now (pairs_view members.old.items)) (tree_view value)) members.new.items) }
+    ensures held { IfOk result
+        (HoldsAt (λ m. tree_view m.1
+        ≡ unwrap_or (last_member key.now (pairs_view members.old.items)) (tree_view value)) members.new.items) }
     ensures within { IfOk result (λ i. i < length members.new.items) }
     ensures stored { OnOk result (pairs_view members.new.items ≡ with_member key.now (tree_view value) (pairs_view members.old.items)) }
     ensures unchanged { OnErr result (members.new.items ≡ members.old.items) }

@@ -1,6 +1,6 @@
-//! A JSON value in memory, `Tree`: when two are equal, what stands in one, copies, how one is made, changed, sorted and displayed; how one is
-//! read from a parser's events (`read_tree`, `tree_from_slice` and its kin, also within a depth, and from texts of RFC 8259 alone); and how
-//! it is written by a serializer's calls (`write_tree`). A failure to write a text to a writer is a `WriteError`.
+//! A JSON value in memory, `Tree`: when two are equal, what stands in one, copies, how one is made, changed, sorted and displayed; how one
+//! is read from a parser's events (`read_tree`, `tree_from_slice` and its kin, also within a depth, and from texts of RFC 8259 alone); and
+//! how it is written by a serializer's calls (`write_tree`). A failure to write a text to a writer is a `WriteError`.
 #![tactic(auto)]
 
 mod content;

@@ -3,14 +3,16 @@
 //! A pointer is checked as a whole before a value is looked into, so that what is wrong with it does not hang on the value. Its tokens are
 //! then taken one after the other, and a key is compared with an escaped token byte by byte: nothing is allocated.
 
-ghost use Rattle.std.specs.Prelude.{◌≡◌, ◌≤◌, ◌<◌, ◌^◌, ◌∷◌, [], ℕ, List, true, length, None, Some, IfOk, IfErr, IfSome, OnOk, MatchOption, option_map, option_and_then};
+ghost use Rattle.std.specs.Prelude.{◌≡◌, ◌≤◌, ◌<◌, ◌^◌, ◌∷◌, [], ℕ, List, true, length, None, Some, IfOk, IfErr, IfSome, OnOk, MatchOption};
+ghost use Rattle.std.specs.Prelude.{option_map, option_and_then};
 ghost use Rattle.std.specs.List.{list_all};
 ghost use Rattle.facet_format.specs.Bytes.{is_digit};
 ghost use Rattle.facet_format.specs.NumberValue.{digits_value};
 ghost use Rattle.facet_json_tree.specs.Inner.LastNamed.{IsLastNamed};
 ghost use Rattle.facet_json_tree.specs.Inner.PointerParts.{unescaped, before_slash};
 ghost use Rattle.facet_json_tree.specs.Lookup.{last_member, item_at};
-ghost use Rattle.facet_json_tree.specs.Pointer.{IsPointer, PointsTo, begins_pointer, child as child_of, index, lone_tilde, named as named_of, zero_or_one};
+ghost use Rattle.facet_json_tree.specs.Pointer.{IsPointer, PointsTo, begins_pointer, child as child_of, index, lone_tilde};
+ghost use Rattle.facet_json_tree.specs.Pointer.{named as named_of, zero_or_one};
 ghost use Rattle.facet_json_tree.specs.PointerViews.{IsWrongAt, RefusesPointer};
 ghost use Rattle.facet_json_tree.specs.Same.{same_bytes};
 ghost use Rattle.facet_json_tree.specs.Views.{tree_view, trees_view, pairs_view};

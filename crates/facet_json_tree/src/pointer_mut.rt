@@ -35,7 +35,8 @@ impl Tree {
 
 /// What a text names that is a pointer.
 fn named_mut<'t>(tree: &'t mut Tree, pointer: &[u8]) -> Option<&'t mut Tree>
-    ensures { (names : List (List ℕ)) → IsPointer pointer.now names → option_map (λ t. tree_view t.now) result ≡ named_of names (tree_view tree.old) }
+    ensures { (names : List (List ℕ)) → IsPointer pointer.now names → option_map (λ t. tree_view t.now) result
+        ≡ named_of names (tree_view tree.old) }
 {
     let mut found = tree;
     let mut start = 0;

@@ -1,6 +1,7 @@
 //! Reads the tree of a value, event by event and by recursion.
 
-ghost use Rattle.std.specs.Prelude.{◌≡◌, ◌≤◌, ◌<◌, ◌+◌, ◌⊎◌, ◌++◌, ◌∷◌, false, [], string_bytes, length, None, Some, IfOk, IfErr, IfSome, OnOk, MatchResult, MatchOption};
+ghost use Rattle.std.specs.Prelude.{◌≡◌, ◌≤◌, ◌<◌, ◌+◌, ◌⊎◌, ◌++◌, ◌∷◌, false, [], string_bytes, length, None, Some, IfOk, IfErr, IfSome};
+ghost use Rattle.std.specs.Prelude.{OnOk, MatchResult, MatchOption};
 ghost use Rattle.facet_format.specs.Complaint.{out_of_memory, type_mismatch, refusal_at};
 ghost use Rattle.facet_format.specs.Event.{sequence_end, struct_end, array, object};
 ghost use Rattle.facet_format.specs.Views.{event_of, refusal_of, scalar_value_of, span_of};
@@ -22,7 +23,9 @@ ghost use Rattle.facet_json_core.specs.Meaning.Passing.{MovesOn};
 ghost use Rattle.facet_json_core.specs.Meaning.Reading.{IsRead, IsUnread, HasDocument, EndsStrictly};
 ghost use Rattle.facet_json_tree.specs.Depth.{outer, too_deep_at};
 ghost use Rattle.facet_json_tree.specs.Inner.Beyond.{inner as spec_inner, Admits, SameBeyond, IsValueUnreadWithin};
-ghost use Rattle.facet_json_tree.specs.Inner.Reading.{WentOn, LeadsOn, AreItemsRead, AreMembersRead, AreItemsUnreadWithin, AreMembersUnreadWithin, HasBegun, IsRefused, BeganValue, BeganMember, PassedEnd, IsKey, IsFilled, PassesRest, IsLevel, IsUnfilled};
+ghost use Rattle.facet_json_tree.specs.Inner.Reading.{WentOn, LeadsOn, AreItemsRead, AreMembersRead, AreItemsUnreadWithin};
+ghost use Rattle.facet_json_tree.specs.Inner.Reading.{AreMembersUnreadWithin, HasBegun, IsRefused, BeganValue, BeganMember, PassedEnd};
+ghost use Rattle.facet_json_tree.specs.Inner.Reading.{IsKey, IsFilled, PassesRest, IsLevel, IsUnfilled};
 ghost use Rattle.facet_json_tree.specs.Views.{tree_view, trees_view, pairs_view};
 
 use crate::owned_decimal::OwnedDecimal;
@@ -35,8 +38,8 @@ use facet_json_core::next_of_value;
 use facet_json_parser::JsonParser;
 use std::alloc::{AllocError, Global};
 
-/// Reads the plain document that the bytes begin with (RFC 8259, sections 2 to 7, with lenient readings such as a trailing comma). What follows it is
-/// not looked at.
+/// Reads the plain document that the bytes begin with (RFC 8259, sections 2 to 7, with lenient readings such as a trailing comma). What
+/// follows it is not looked at.
 ///
 /// ```text
 /// tree_from_slice(alloc, b"[1,]")     Ok: Tree::List of Tree::U64(1)
@@ -115,7 +118,8 @@ pub fn read_tree<'t>(
     ensures free { OnOk result (parser.new.cursor.refusal ≡ None) }
     ensures tells { IfErr result (λ e. TellsRefusal parser.old parser.new (refusal_of e)) }
     ensures told { IfOk result (λ t. IsValueRead (future_of parser.old) (tree_view t) (future_of parser.new)) }
-    ensures refused { parser.old.cursor.refusal ≡ None → IfErr result (λ e. IsValueUnread parser.old.buffer (future_of parser.old) (refusal_of e)) }
+    ensures refused { parser.old.cursor.refusal ≡ None
+        → IfErr result (λ e. IsValueUnread parser.old.buffer (future_of parser.old) (refusal_of e)) }
 {
     read_value(alloc, parser, None)
 }
@@ -143,7 +147,8 @@ pub(crate) fn read_value<'t>(
     ensures told { IfOk result (λ t. IsValueRead (future_of parser.old) (tree_view t) (future_of parser.new)) }
     ensures level { OnOk result (SameBeyond (future_of parser.old) depth (future_of parser.new) depth) }
     ensures free { OnOk result (parser.new.cursor.refusal ≡ None) }
-    ensures refused { parser.old.cursor.refusal ≡ None → IfErr result (λ e. IsValueUnreadWithin depth parser.old.buffer (future_of parser.old) (refusal_of e)) }
+    ensures refused { parser.old.cursor.refusal ≡ None
+        → IfErr result (λ e. IsValueUnreadWithin depth parser.old.buffer (future_of parser.old) (refusal_of e)) }
     ensures within { IfErr result (λ e. IfSome e.span (λ s. s.offset + s.len ≤ length parser.new.buffer)) }
     ensures tells { IfErr result (λ e. TellsRefusal parser.old parser.new (refusal_of e)) }
 {
@@ -163,7 +168,8 @@ fn begin_value<'t>(
     ensures moves { OnOk result (MovesOn parser.old parser.new) }
     ensures shorter { OnOk result (ahead parser.new < ahead parser.old) }
     ensures begun { IfOk result (λ t. BeganValue depth parser.old (tree_view t) parser.new) }
-    ensures refused { parser.old.cursor.refusal ≡ None → IfErr result (λ e. IsValueUnreadWithin depth parser.old.buffer (future_of parser.old) (refusal_of e)) }
+    ensures refused { parser.old.cursor.refusal ≡ None
+        → IfErr result (λ e. IsValueUnreadWithin depth parser.old.buffer (future_of parser.old) (refusal_of e)) }
     ensures within { IfErr result (λ e. IfSome e.span (λ s. s.offset + s.len ≤ length parser.new.buffer)) }
     ensures tells { IfErr result (λ e. TellsRefusal parser.old parser.new (refusal_of e)) }
 {
@@ -181,7 +187,8 @@ fn begin_item<'t>(
     ensures keeps { KeepsOn parser.old parser.new }
     ensures moves { OnOk result (MovesOn parser.old parser.new) }
     ensures shorter { OnOk result (ahead parser.new < ahead parser.old) }
-    ensures begun { IfOk result (λ o. MatchOption o (PassedEnd sequence_end parser.old parser.new) (λ t. BeganValue depth parser.old (tree_view t) parser.new)) }
+    ensures begun { IfOk result
+        (λ o. MatchOption o (PassedEnd sequence_end parser.old parser.new) (λ t. BeganValue depth parser.old (tree_view t) parser.new)) }
     ensures refused { IfErr result (λ e. AreItemsUnreadWithin depth parser.old.buffer (future_of parser.old) (refusal_of e)) }
     ensures within { IfErr result (λ e. IfSome e.span (λ s. s.offset + s.len ≤ length parser.new.buffer)) }
     ensures tells { IfErr result (λ e. TellsRefusal parser.old parser.new (refusal_of e)) }
@@ -204,7 +211,9 @@ fn begin_member<'t>(
     ensures keeps { KeepsOn parser.old parser.new }
     ensures moves { OnOk result (MovesOn parser.old parser.new) }
     ensures shorter { OnOk result (ahead parser.new < ahead parser.old) }
-    ensures begun { IfOk result (λ o. MatchOption o (PassedEnd struct_end parser.old parser.new) (λ m. BeganMember depth parser.old (string_bytes m.0) (tree_view m.1) parser.new)) }
+    ensures begun { IfOk result
+        (λ o. MatchOption o (PassedEnd struct_end parser.old parser.new)
+        (λ m. BeganMember depth parser.old (string_bytes m.0) (tree_view m.1) parser.new)) }
     ensures refused { IfErr result (λ e. AreMembersUnreadWithin depth parser.old.buffer (future_of parser.old) (refusal_of e)) }
     ensures within { IfErr result (λ e. IfSome e.span (λ s. s.offset + s.len ≤ length parser.new.buffer)) }
     ensures tells { IfErr result (λ e. TellsRefusal parser.old parser.new (refusal_of e)) }
@@ -221,7 +230,8 @@ fn member_key<'t>(
     alloc: Global,
     event: ParseEvent<'_>,
 ) -> Result<Option<String>, DeserializeError<'t>>
-    ensures key { IfOk result (λ o. MatchOption o ((event_of event.entry).kind ≡ struct_end) (λ k. IsKey (event_of event.entry).kind (string_bytes k))) }
+    ensures key { IfOk result
+        (λ o. MatchOption o ((event_of event.entry).kind ≡ struct_end) (λ k. IsKey (event_of event.entry).kind (string_bytes k))) }
     ensures refused { IfErr result (λ e. LacksMemory (refusal_of e) ⊎ (is_member (event_of event.entry).kind ≡ false)) }
     ensures span { IfErr result (λ e. IfSome e.span (λ s. s ≡ event.entry.span)) }
     ensures about { IfErr result (λ e. LacksOrIsAbout (event_of event.entry).span (refusal_of e)) }
@@ -340,10 +350,12 @@ fn push_items<'t>(
     ensures keeps { KeepsOn parser.old parser.new }
     ensures leads { OnOk result (LeadsOn parser.old parser.new) }
     ensures went { OnOk result (WentOn parser.old parser.new) }
-    ensures read { OnOk result (items.old.items ≡ [] → AreItemsRead (future_of parser.old) (trees_view items.new.items) (future_of parser.new)) }
+    ensures read { OnOk result
+        (items.old.items ≡ [] → AreItemsRead (future_of parser.old) (trees_view items.new.items) (future_of parser.new)) }
     ensures passes { OnOk result (PassesEndOf array parser.old parser.new) }
     ensures level { OnOk result (SameBeyond (future_of parser.old) depth (future_of parser.new) (outer depth)) }
-    ensures refused { IfErr result (λ e. items.old.items ≡ [] → AreItemsUnreadWithin depth parser.old.buffer (future_of parser.old) (refusal_of e)) }
+    ensures refused { IfErr result
+        (λ e. items.old.items ≡ [] → AreItemsUnreadWithin depth parser.old.buffer (future_of parser.old) (refusal_of e)) }
     ensures within { IfErr result (λ e. IfSome e.span (λ s. s.offset + s.len ≤ length parser.new.buffer)) }
     ensures tells { IfErr result (λ e. TellsRefusal parser.old parser.new (refusal_of e)) }
 {
@@ -367,10 +379,12 @@ fn push_members<'t>(
     ensures keeps { KeepsOn parser.old parser.new }
     ensures leads { OnOk result (LeadsOn parser.old parser.new) }
     ensures went { OnOk result (WentOn parser.old parser.new) }
-    ensures read { OnOk result (members.old.items ≡ [] → AreMembersRead (future_of parser.old) (pairs_view members.new.items) (future_of parser.new)) }
+    ensures read { OnOk result
+        (members.old.items ≡ [] → AreMembersRead (future_of parser.old) (pairs_view members.new.items) (future_of parser.new)) }
     ensures passes { OnOk result (PassesEndOf object parser.old parser.new) }
     ensures level { OnOk result (SameBeyond (future_of parser.old) depth (future_of parser.new) (outer depth)) }
-    ensures refused { IfErr result (λ e. members.old.items ≡ [] → AreMembersUnreadWithin depth parser.old.buffer (future_of parser.old) (refusal_of e)) }
+    ensures refused { IfErr result
+        (λ e. members.old.items ≡ [] → AreMembersUnreadWithin depth parser.old.buffer (future_of parser.old) (refusal_of e)) }
     ensures within { IfErr result (λ e. IfSome e.span (λ s. s.offset + s.len ≤ length parser.new.buffer)) }
     ensures tells { IfErr result (λ e. TellsRefusal parser.old parser.new (refusal_of e)) }
 {
@@ -405,7 +419,8 @@ fn scalar<'t>(
     span: Span,
 ) -> Result<Tree, DeserializeError<'t>>
     ensures read { IfOk result (λ t. tree_of_scalar (scalar_value_of value.entry) ≡ Some (tree_view t)) }
-    ensures refused { IfErr result (λ e. (u : SpecTree) → tree_of_scalar (scalar_value_of value.entry) ≡ Some u → LacksMemory (refusal_of e)) }
+    ensures refused { IfErr result
+        (λ e. (u : SpecTree) → tree_of_scalar (scalar_value_of value.entry) ≡ Some u → LacksMemory (refusal_of e)) }
     ensures span { IfErr result (λ e. IfSome e.span (λ s. s ≡ span)) }
     ensures about { IfErr result (λ e. LacksOrIsAbout (span_of span) (refusal_of e)) }
 {

@@ -47,7 +47,8 @@ pub fn tree_from_slice_strict<'t>(alloc: Global, input: &[u8]) -> Result<Tree, D
     ensures only { (root : Node) (value : SpecTree) → IsStrictDocument input.now root value
         → MatchResult result (λ t. tree_view t ≡ value) (λ e. (refusal_of e).complaint ≡ out_of_memory) }
     ensures within { IfErr result (λ e. IfSome e.span (λ s. s.offset + s.len ≤ length input.now)) }
-    ensures tells { let start = fresh_in input.now (strict plain) in IfErr result (λ e. (last : Now) × ComesTo start last × TellsRefusal start last (refusal_of e)) }
+    ensures tells { let start = fresh_in input.now (strict plain)
+        in IfErr result (λ e. (last : Now) × ComesTo start last × TellsRefusal start last (refusal_of e)) }
 {
     strict_document(alloc, JsonParser::new_strict(alloc, input), None)
 }
@@ -74,10 +75,12 @@ pub fn tree_from_slice_within_strict<'t>(
     ensures document { IfOk result (λ t. (root : Node) × IsStrictDocument input.now root (tree_view t) × (depth_of root ≤ depth)) }
     ensures only { (root : Node) (value : SpecTree) → IsStrictDocument input.now root value → depth_of root ≤ depth
         → MatchResult result (λ t. tree_view t ≡ value) (λ e. (refusal_of e).complaint ≡ out_of_memory) }
-    ensures deeper { (root : Node) (value : SpecTree) (s : SpecSpan) → IsStrictDocument input.now root value → first_beyond depth root ≡ Some s
+    ensures deeper { (root : Node) (value : SpecTree) (s : SpecSpan) → IsStrictDocument input.now root value → first_beyond depth root
+        ≡ Some s
         → MatchResult result (λ t. ⊥) (λ e. ((refusal_of e).complaint ≡ out_of_memory) ⊎ (refusal_of e ≡ too_deep_at s)) }
     ensures within { IfErr result (λ e. IfSome e.span (λ s. s.offset + s.len ≤ length input.now)) }
-    ensures tells { let start = fresh_in input.now (strict plain) in IfErr result (λ e. (last : Now) × ComesTo start last × TellsRefusal start last (refusal_of e)) }
+    ensures tells { let start = fresh_in input.now (strict plain)
+        in IfErr result (λ e. (last : Now) × ComesTo start last × TellsRefusal start last (refusal_of e)) }
 {
     strict_document(alloc, JsonParser::new_strict(alloc, input), Some(depth))
 }

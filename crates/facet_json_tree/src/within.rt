@@ -43,7 +43,8 @@ pub fn tree_from_slice_within<'t>(
     ensures document { IfOk result (λ t. (root : Node) × IsDocument input.now plain root (tree_view t) × (depth_of root ≤ depth)) }
     ensures only { (root : Node) (value : SpecTree) → IsDocument input.now plain root value → depth_of root ≤ depth
         → MatchResult result (λ t. tree_view t ≡ value) (λ e. (refusal_of e).complaint ≡ out_of_memory) }
-    ensures deeper { (root : Node) (value : SpecTree) (s : SpecSpan) → IsDocument input.now plain root value → first_beyond depth root ≡ Some s
+    ensures deeper { (root : Node) (value : SpecTree) (s : SpecSpan) → IsDocument input.now plain root value → first_beyond depth root
+        ≡ Some s
         → MatchResult result (λ t. ⊥) (λ e. ((refusal_of e).complaint ≡ out_of_memory) ⊎ (refusal_of e ≡ too_deep_at s)) }
     ensures refused { IfErr result (λ e. ((refusal_of e).complaint ≡ out_of_memory) ⊎ RefusesWithin input.now plain depth (refusal_of e)) }
     ensures within { IfErr result (λ e. IfSome e.span (λ s. s.offset + s.len ≤ length input.now)) }
@@ -69,7 +70,8 @@ pub fn tree_from_slice_within_jsonc<'t>(
     ensures document { IfOk result (λ t. (root : Node) × IsDocument input.now jsonc root (tree_view t) × (depth_of root ≤ depth)) }
     ensures only { (root : Node) (value : SpecTree) → IsDocument input.now jsonc root value → depth_of root ≤ depth
         → MatchResult result (λ t. tree_view t ≡ value) (λ e. (refusal_of e).complaint ≡ out_of_memory) }
-    ensures deeper { (root : Node) (value : SpecTree) (s : SpecSpan) → IsDocument input.now jsonc root value → first_beyond depth root ≡ Some s
+    ensures deeper { (root : Node) (value : SpecTree) (s : SpecSpan) → IsDocument input.now jsonc root value → first_beyond depth root
+        ≡ Some s
         → MatchResult result (λ t. ⊥) (λ e. ((refusal_of e).complaint ≡ out_of_memory) ⊎ (refusal_of e ≡ too_deep_at s)) }
     ensures refused { IfErr result (λ e. ((refusal_of e).complaint ≡ out_of_memory) ⊎ RefusesWithin input.now jsonc depth (refusal_of e)) }
     ensures within { IfErr result (λ e. IfSome e.span (λ s. s.offset + s.len ≤ length input.now)) }

@@ -1,6 +1,7 @@
 //! Nodes of events.
 
-ghost use Rattle.std.specs.Prelude.{◌≡◌, ◌<◌, ◌≤◌, ◌⊎◌, ℕ, List, Err, true, false, Ok, Option, None, Some, IfOk, IfErr, IfSome, OnOk, MatchResult, length, reverse, set, slice_get};
+ghost use Rattle.std.specs.Prelude.{◌≡◌, ◌<◌, ◌≤◌, ◌⊎◌, ℕ, List, Err, true, false, Ok, Option, None, Some, IfOk, IfErr, IfSome, OnOk};
+ghost use Rattle.std.specs.Prelude.{MatchResult, length, reverse, set, slice_get};
 ghost use Rattle.facet_format.specs.Complaint.{no_memory};
 ghost use Rattle.facet_format.specs.Cursor.{event, next};
 ghost use Rattle.facet_format.specs.Span.{Span as SpecSpan, stop};
@@ -12,7 +13,8 @@ ghost use Rattle.facet_format.specs.HeldText.{text_of};
 ghost use Rattle.facet_format.specs.declared.event.ScalarValue.{ScalarValue as RustScalar};
 ghost use Rattle.facet_json_core.specs.Told.{tree_of_scalar};
 ghost use Rattle.facet_json_document.specs.Tree as trees;
-ghost use Rattle.facet_json_layout.specs.Inner.Building.{added, also, begun, closed, container, ended, built_view, none_yet, AddsNext, AddsAll, LeavesRoom, IsTooDeep, RefusesNext};
+ghost use Rattle.facet_json_layout.specs.Inner.Building.{added, also, begun, closed, container, ended, built_view, none_yet, AddsNext};
+ghost use Rattle.facet_json_layout.specs.Inner.Building.{AddsAll, LeavesRoom, IsTooDeep, RefusesNext};
 ghost use Rattle.facet_json_tree.specs.Depth.{beyond_bracket, outer, too_deep_at, beyond};
 ghost use Rattle.facet_json_tree.specs.Inner.Beyond.{SameBeyond};
 ghost use Rattle.facet_json_core.specs.Reading.{LacksMemory};
@@ -20,7 +22,8 @@ ghost use Rattle.facet_json_document.specs.Move.{Moves};
 ghost use Rattle.facet_json_document.specs.Now.{ahead, future_of};
 ghost use Rattle.facet_json_document.specs.UnreadLaws.{RefusalWithin};
 ghost use Rattle.facet_json_layout.specs.Formatted.{GetsStuckWithin};
-ghost use Rattle.facet_json_layout.specs.Nodes.{Node as SpecNode, leaf, key, list, object, closing, nothing, node_view, nodes_view, text_at};
+ghost use Rattle.facet_json_layout.specs.Nodes.{Node as SpecNode, leaf, key, list, object, closing, nothing, node_view, nodes_view};
+ghost use Rattle.facet_json_layout.specs.Nodes.{text_at};
 
 use crate::document::built::{Built, Opened};
 use crate::document::node::Node;
@@ -42,7 +45,8 @@ pub(crate) fn build<'i, 't>(
     requires { parser.old.buffer ≡ input.now }
     ensures nodes { IfOk result (λ v. AddsAll parser.old (nodes_view input.now v.1.items v.0.items)) }
     ensures shallow { OnOk result (beyond (future_of parser.old) depth ≡ None) }
-    ensures refused { parser.old.cursor.refusal ≡ None → IfErr result (λ e. LacksMemory (refusal_of e) ⊎ GetsStuckWithin depth parser.old (refusal_of e)) }
+    ensures refused { parser.old.cursor.refusal ≡ None
+        → IfErr result (λ e. LacksMemory (refusal_of e) ⊎ GetsStuckWithin depth parser.old (refusal_of e)) }
     ensures within { IfErr result (λ e. RefusalWithin parser.old.buffer (refusal_of e)) }
 {
     let mut built = Built {
@@ -88,7 +92,8 @@ impl<'i> Built<'i> {
         requires { stop (span_of span) ≤ length self.old.input.now }
         ensures added { OnOk result (built_view self.new ≡ added (event_kind_of kind.entry) (span_of span) (built_view self.old)) }
         ensures left { OnOk result (LeavesRoom self.old.room (event_kind_of kind.entry) (span_of span) self.new.room) }
-        ensures refused { IfErr result (λ e. LacksMemory (refusal_of e) ⊎ IsTooDeep self.old.room (event_kind_of kind.entry) (span_of span) (refusal_of e)) }
+        ensures refused { IfErr result
+            (λ e. LacksMemory (refusal_of e) ⊎ IsTooDeep self.old.room (event_kind_of kind.entry) (span_of span) (refusal_of e)) }
         ensures span { IfErr result (λ e. IfSome e.span (λ s. s ≡ span)) }
     {
         match kind {
@@ -107,7 +112,8 @@ impl<'i> Built<'i> {
     fn add_leaf(&mut self, value: ScalarValue<'i>, span: Span) -> Result<(), AllocError>
         ensures room { self.new.room ≡ self.old.room }
         ensures node { OnOk result (built_view self.new
-            ≡ also (leaf (text_at self.old.input.now (span_of span)) (unwrap_or (tree_of_scalar (scalar_value_of value.entry)) nothing)) (built_view self.old)) }
+            ≡ also (leaf (text_at self.old.input.now (span_of span)) (unwrap_or (tree_of_scalar (scalar_value_of value.entry)) nothing))
+            (built_view self.old)) }
     {
         match value {
             ScalarValue::Null => self.also(Node::Null(span)),
@@ -119,7 +125,8 @@ impl<'i> Built<'i> {
         }
     }
 
-    /// Adds the node of a text in the input. Between its quotes it is as long as the bytes that it stands for, so that the node need not tell.
+    /// Adds the node of a text in the input. Between its quotes it is as long as the bytes that it stands for, so that the node need not
+    /// tell.
     #[inline(always)]
     fn add_text(&mut self, text: &'i str, span: Span) -> Result<(), AllocError>
         ensures room { self.new.room ≡ self.old.room }
@@ -138,7 +145,8 @@ impl<'i> Built<'i> {
     fn add_held(&mut self, value: ScalarValue<'i>, span: Span) -> Result<(), AllocError>
         ensures room { self.new.room ≡ self.old.room }
         ensures node { OnOk result (built_view self.new
-            ≡ also (leaf (text_at self.old.input.now (span_of span)) (unwrap_or (tree_of_scalar (scalar_value_of value.entry)) nothing)) (built_view self.old)) }
+            ≡ also (leaf (text_at self.old.input.now (span_of span)) (unwrap_or (tree_of_scalar (scalar_value_of value.entry)) nothing))
+            (built_view self.old)) }
     {
         let at = self.hold(value)?;
         self.also(Node::Held(at, span))
@@ -177,8 +185,10 @@ impl<'i> Built<'i> {
         requires { FindsHeld self.old.held.items node }
         ensures begun { OnOk result
             (built_view self.new ≡ begun first.offset (node_view self.old.input.now self.old.held.items node.entry) (built_view self.old)) }
-        ensures left { OnOk result ((others : Option ℕ → Option SpecSpan) → beyond_bracket (span_of first) others self.old.room ≡ others self.new.room) }
-        ensures refused { IfErr result (λ e. LacksMemory (refusal_of e) ⊎ ((self.old.room ≡ Some 0) × (refusal_of e ≡ too_deep_at (span_of first)))) }
+        ensures left { OnOk result
+            ((others : Option ℕ → Option SpecSpan) → beyond_bracket (span_of first) others self.old.room ≡ others self.new.room) }
+        ensures refused { IfErr result
+            (λ e. LacksMemory (refusal_of e) ⊎ ((self.old.room ≡ Some 0) × (refusal_of e ≡ too_deep_at (span_of first)))) }
         ensures span { IfErr result (λ e. IfSome e.span (λ s. s ≡ first)) }
     {
         self.room = room_within(first, self.room)?;
@@ -226,7 +236,8 @@ impl<'i> Built<'i> {
     #[inline(always)]
     fn also(&mut self, node: Node<'i>) -> Result<(), AllocError>
         requires { FindsHeld self.old.held.items node }
-        ensures node { OnOk result (built_view self.new ≡ also (node_view self.old.input.now self.old.held.items node.entry) (built_view self.old)) }
+        ensures node { OnOk result
+            (built_view self.new ≡ also (node_view self.old.input.now self.old.held.items node.entry) (built_view self.old)) }
         ensures room { self.new.room ≡ self.old.room }
     {
         self.nodes.push(node)?;
@@ -283,7 +294,8 @@ fn put<'i>(nodes: &mut Vec<Node<'i>>, at: usize, node: Node<'i>)
 /// The node of a container that stands there, and that so many of the next nodes belong to.
 #[inline(always)]
 fn container_node<'i>(kind: ContainerKind, inner: usize, span: Span) -> Node<'i>
-    ensures node { (input : List ℕ) (held : List RustScalar) → node_view input held result ≡ container kind (text_at input (span_of span)) inner }
+    ensures node { (input : List ℕ) (held : List RustScalar) → node_view input held result
+        ≡ container kind (text_at input (span_of span)) inner }
     ensures held { (held : List RustScalar) → FindsHeld held result }
 {
     match kind {

@@ -7,14 +7,16 @@ ghost use Rattle.facet_format.specs.declared.event.ScalarValue.{ScalarValue as R
 ghost use Rattle.facet_json_core.specs.Told.{tree_of_scalar};
 ghost use Rattle.facet_json_document.specs.Tree.{Tree};
 ghost use Rattle.facet_json_layout.specs.Inner.Looking.{TellsLeaf, seen_in};
-ghost use Rattle.facet_json_layout.specs.Nodes.{Node as SpecNode, leaf_view, value_kind, value_beginning, key, node_view, nothing, held_leaf, held_name, is_key, is_list, is_object, is_closing_node, raw_text, text_at, inner_len as spec_inner};
+ghost use Rattle.facet_json_layout.specs.Nodes.{Node as SpecNode, leaf_view, value_kind, value_beginning, key, node_view, nothing};
+ghost use Rattle.facet_json_layout.specs.Nodes.{held_leaf, held_name, is_key, is_list, is_object, is_closing_node, raw_text, text_at};
+ghost use Rattle.facet_json_layout.specs.Nodes.{inner_len as spec_inner};
 
 use crate::document::Document;
 use facet_format::{Decimal, ScalarValue, Span};
 
-/// A node: of a value, a key, or a container's end. A truth value, a whole number of 64 bits, and a text or name that the input has as it is, stand
-/// in the node itself; of what the document holds beside its nodes, it has the index. Of a value it tells where in the input it stands. So a node
-/// takes 32 bytes, and is copied freely.
+/// A node: of a value, a key, or a container's end. A truth value, a whole number of 64 bits, and a text or name that the input has as it
+/// is, stand in the node itself; of what the document holds beside its nodes, it has the index. Of a value it tells where in the input it
+/// stands. So a node takes 32 bytes, and is copied freely.
 #[derive(Clone, Copy)]
 pub enum Node<'i> {
     /// `null`
@@ -27,7 +29,8 @@ pub enum Node<'i> {
     U64(u64, Span),
     /// A text in the input, and the offset of the quote before it.
     Text(&'i str, usize),
-    /// Any other value that holds no others: a decimal, a text with escapes, or the digits of a whole number past 64 bits. It is held at this index.
+    /// Any other value that holds no others: a decimal, a text with escapes, or the digits of a whole number past 64 bits. It is held at
+    /// this index.
     Held(usize, Span),
     /// The name of a member, in the input; its value begins at the next node.
     Key(&'i str),
@@ -140,7 +143,8 @@ impl<'i> Node<'i> {
 
     /// The name, where it is a key, beside what the document holds.
     pub(crate) fn name<'d>(&self, document: &'d Document<'i>) -> Option<&'d str>
-        ensures { MatchOption result (is_key (seen_in document.now self.now) ≡ false) (λ name. seen_in document.now self.now ≡ key name.now) }
+        ensures { MatchOption result (is_key (seen_in document.now self.now) ≡ false)
+            (λ name. seen_in document.now self.now ≡ key name.now) }
     {
         match self {
             Node::Key(name) => Some(*name),

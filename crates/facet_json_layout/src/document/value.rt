@@ -7,7 +7,9 @@ ghost use Rattle.facet_format.specs.Views.{span_of};
 ghost use Rattle.facet_json_tree.specs.Content as content;
 ghost use Rattle.facet_json_tree.specs.Content.{TellsUnsigned, TellsSigned};
 ghost use Rattle.facet_json_tree.specs.Lookup.{member, item};
-ghost use Rattle.facet_json_layout.specs.Nodes.{value_kind, value_view, inner_len, items, members, items_left, members_left, item_nodes, item_nodes_left, list_items, last_named, len, member_nodes, member_nodes_left, object_members, nodes_from, pairs_list, raw_text, text_at, trees_list};
+ghost use Rattle.facet_json_layout.specs.Nodes.{value_kind, value_view, inner_len, items, members, items_left, members_left, item_nodes};
+ghost use Rattle.facet_json_layout.specs.Nodes.{item_nodes_left, list_items, last_named, len, member_nodes, member_nodes_left};
+ghost use Rattle.facet_json_layout.specs.Nodes.{object_members, nodes_from, pairs_list, raw_text, text_at, trees_list};
 ghost use Rattle.facet_json_layout.specs.Inner.Looking.{IsLeaf, IsNodeAt, IsNextItem, IsMemberAt, from, many, seen};
 
 mod copying;
@@ -81,7 +83,8 @@ impl<'d, 'i> Value<'d, 'i> {
         }
     }
 
-    /// The text of a string (RFC 8259, section 7), unescaped, or of a whole number past 64 bits. It lies in the input where no escape stands in it.
+    /// The text of a string (RFC 8259, section 7), unescaped, or of a whole number past 64 bits. It lies in the input where no escape
+    /// stands in it.
     ///
     /// ```text
     /// of "a\n": as_str()                                      Some("a" and a line feed)
@@ -143,8 +146,8 @@ impl<'d, 'i> Value<'d, 'i> {
         }
     }
 
-    /// The value's bytes in the input, from its first to its last: of a list or an object with all that stands between its brackets, white space
-    /// and comments too. A message can so be passed on, or read by another, as it came.
+    /// The value's bytes in the input, from its first to its last: of a list or an object with all that stands between its brackets, white
+    /// space and comments too. A message can so be passed on, or read by another, as it came.
     ///
     /// ```text
     /// of {"a": [1, 2.0 ], "b": "\u0061"}: get("a") and raw()    [1, 2.0 ]
@@ -159,8 +162,8 @@ impl<'d, 'i> Value<'d, 'i> {
         }
     }
 
-    /// The value of an object's member with this name: of several with one name the last counts, as a map reads them (RFC 8259, section 4). Other
-    /// values have no members. The names are compared one by one, and what the members hold is passed at once.
+    /// The value of an object's member with this name: of several with one name the last counts, as a map reads them (RFC 8259, section 4).
+    /// Other values have no members. The names are compared one by one, and what the members hold is passed at once.
     ///
     /// ```text
     /// of {"a":1,"b":2,"a":3}: get("a")                        Some: 3
@@ -177,8 +180,8 @@ impl<'d, 'i> Value<'d, 'i> {
         self.last_named(key)
     }
 
-    /// The item of a list at this index, the first at 0 (RFC 8259, section 5). Other values have no items. What the items before it hold is passed
-    /// at once.
+    /// The item of a list at this index, the first at 0 (RFC 8259, section 5). Other values have no items. What the items before it hold is
+    /// passed at once.
     ///
     /// ```text
     /// of [7,true]: item(1)                                    Some: true
@@ -195,8 +198,8 @@ impl<'d, 'i> Value<'d, 'i> {
         self.item_of_list(index)
     }
 
-    /// How many items or members the value has (RFC 8259, sections 4 and 5), where it is a list or an object. They are counted one by one, and what
-    /// they hold is passed at once.
+    /// How many items or members the value has (RFC 8259, sections 4 and 5), where it is a list or an object. They are counted one by one,
+    /// and what they hold is passed at once.
     ///
     /// ```text
     /// of [7,[8,9]]: len()                                     Some(2)

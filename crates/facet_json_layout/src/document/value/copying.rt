@@ -12,11 +12,11 @@ use facet_json_tree::{OwnedDecimal, Tree};
 use std::alloc::{AllocError, Global};
 
 impl<'d, 'i> Value<'d, 'i> {
-    /// The value's tree: the value that `tree_from_slice` reads where the document's text has this one, in memory of its own, so that it outlives
-    /// the document and may be changed.
+    /// The value's tree: the value that `tree_from_slice` reads where the document's text has this one, in memory of its own, so that it
+    /// outlives the document and may be changed.
     ///
-    /// Lists and objects are copied by recursion, a level of the stack for each level of nesting, as by `Tree::clone`. Where a document comes from
-    /// strangers, `Document::parse_within` bounds its depth.
+    /// Lists and objects are copied by recursion, a level of the stack for each level of nesting, as by `Tree::clone`. Where a document
+    /// comes from strangers, `Document::parse_within` bounds its depth.
     ///
     /// ```text
     /// of [1,{"a":null}]: to_tree(alloc)                       Ok: Tree::List of Tree::U64(1) and an object

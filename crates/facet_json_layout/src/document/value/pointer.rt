@@ -14,9 +14,9 @@ use facet_json_tree::PointerError;
 use facet_json_tree::pointer::{checked, first_token, index_of, stands_for};
 
 impl<'d, 'i> Value<'d, 'i> {
-    /// The value that a JSON pointer names (RFC 6901), as `Tree::pointer` finds it. The empty pointer names the whole value; each token behind a
-    /// `/` names a member of an object, the last of its name, or an item of a list by its index. In a token `~1` stands for `/` and `~0` for `~`.
-    /// `None` where nothing has that name.
+    /// The value that a JSON pointer names (RFC 6901), as `Tree::pointer` finds it. The empty pointer names the whole value; each token
+    /// behind a `/` names a member of an object, the last of its name, or an item of a list by its index. In a token `~1` stands for `/`
+    /// and `~0` for `~`. `None` where nothing has that name.
     ///
     /// ```text
     /// of {"foo":["bar","baz"],"a/b":1}: pointer("/foo/1")     Ok(Some: "baz")

@@ -15,11 +15,11 @@ use facet_json_serializer::{JsonSerializeError, JsonSerializer};
 use std::borrow::CowStr;
 
 impl<'d, 'i> Value<'d, 'i> {
-    /// Writes the value, where a value stands, in the layout of the serializer's options (RFC 8259, sections 2 to 7): what `write_tree` writes of its
-    /// tree, which is not made.
+    /// Writes the value, where a value stands, in the layout of the serializer's options (RFC 8259, sections 2 to 7): what `write_tree`
+    /// writes of its tree, which is not made.
     ///
-    /// Lists and objects are written by recursion, a level of the stack for each level of nesting, as by `write_tree`. Where a document comes from
-    /// strangers, `Document::parse_within` bounds its depth.
+    /// Lists and objects are written by recursion, a level of the stack for each level of nesting, as by `write_tree`. Where a document
+    /// comes from strangers, `Document::parse_within` bounds its depth.
     ///
     /// ```text
     /// of [1.50,{"a":"\u0062"}]: write(&mut serializer)        Ok
