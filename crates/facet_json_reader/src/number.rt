@@ -99,9 +99,16 @@ pub(crate) fn short_whole_in(
     ensures { IfSome result (λ r. (there : IsScalarThere input.now at r.0 (whole_scalar r.1))
         × Allows (language_of language) input.now (record { kind = there.kind; span = span_at at r.0 })) }
 {
+    let (len, whole) = short_whole(input, at, first)?;
     match language {
-        Language::Lenient(_) => short_whole(input, at, first),
-        Language::Strict(_) => short_whole_strict(input, at, first),
+        Language::Lenient(_) => Some((len, whole)),
+        Language::Strict(_) => {
+            if leads_by_no_zero(input, at, first, len) {
+                Some((len, whole))
+            } else {
+                None
+            }
+        }
     }
 }
 

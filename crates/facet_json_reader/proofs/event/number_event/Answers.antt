@@ -1,13 +1,11 @@
 -- The number gives its event.
-use Rattle.std.proofs.Common.{◌+◌, slice_range, Option, Some, None, subst, refl, arith}
+use Rattle.std.proofs.Common.{subst, refl, arith}
 use Rattle.std.proofs.lemmas.Option.{slice_get_within}
-use Rattle.facet_format.specs.Event.{decimal, borrowed}
 use Rattle.facet_json_token.specs.Gap.{plain}
 use Rattle.facet_json_reader.specs.PlaceViews.{language_of}
 use Rattle.facet_json_reader.specs.Inner.Short.{IsShortIn}
 use Rattle.facet_json_reader.specs.Inner.Whole.{whole_scalar}
 use Rattle.facet_json_reader.proofs.QuickEvents.{scalar-passes, decimal-passes}
-use Rattle.facet_json_reader.proofs.ShortNumbers.{decimal-there}
 use Rattle.facet_json_reader.proofs.TokensThere.{there-fits}
 use Rattle.facet_json_reader.proofs.event.number_event.Goals as goal
 
