@@ -6,6 +6,7 @@ pub mod EachBelow
 pub mod HeldTexts
 pub mod KeptLaws
 pub mod Lanes
+pub mod Lines
 pub mod NumberPrefixes
 pub mod NumberLaws
 pub mod NumberSteps

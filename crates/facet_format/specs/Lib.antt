@@ -8,10 +8,13 @@ pub mod HeldText
 pub mod Inner
 pub mod Kept
 pub mod Laws
+pub mod Line
+pub mod Message
 pub mod Number
 pub mod NumberValue
 pub mod NumberParts
 pub mod Part
+pub mod Report
 pub mod Span
 pub mod SerializerCall
 pub mod Steps

@@ -41,7 +41,7 @@ pub mod Inner
 pub mod Inputs
 pub use Rattle.facet_format.specs.Kept
 pub use Rattle.facet_json_document.specs.Language
-pub use Rattle.facet_json_parser.specs.Line
+pub use Rattle.facet_format.specs.Line
 pub mod LineViews
 pub mod Lines
 pub use Rattle.facet_json_core.specs.Meaning.ListSteps
@@ -84,8 +84,8 @@ pub use Rattle.facet_json_document.specs.Reader
 pub use Rattle.facet_json_core.specs.Reading
 pub use Rattle.facet_json_core.specs.Meaning.Readings
 pub use Rattle.facet_json_core.specs.Refusing
-pub use Rattle.facet_json_parser.specs.Message
-pub use Rattle.facet_json_parser.specs.Report
+pub use Rattle.facet_format.specs.Message
+pub use Rattle.facet_format.specs.Report
 pub use Rattle.facet_json_document.specs.RfcLaws
 pub use Rattle.facet_json_token.specs.RfcNumber
 pub use Rattle.facet_json_token.specs.RfcNumberTest

@@ -4,7 +4,7 @@ use Rattle.std.specs.Char.{encode_utf8}
 use Rattle.std.specs.Fmt.{◌++?◌, debug_variant, debug_char, debug_str, debug_list}
 use Rattle.facet_format.specs.Complaint.{Complaint}
 use Rattle.facet_format.specs.Complaint as complaint
-use Rattle.facet_json_parser.specs.Message.{read_text, end_text}
+use Rattle.facet_format.specs.Message.{read_text, end_text}
 use Rattle.facet_json_serializer.specs.Serializer.{WriteRefusal}
 use Rattle.facet_json_serializer.specs.Serializer as writing
 

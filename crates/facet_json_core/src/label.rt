@@ -8,7 +8,7 @@ ghost use Rattle.facet_json_core.specs.ErrorViews.{error_kind_of, scan_of};
 
 use crate::kind::JsonErrorKind;
 use facet_format::DeserializeErrorKind;
-use facet_json_parser::message::tells_where;
+use facet_format::message::tells_where;
 use facet_json_serializer::JsonSerializeError;
 use facet_json_token::ScanErrorKind;
 use std::alloc::{AllocError, Global};

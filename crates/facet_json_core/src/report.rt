@@ -4,10 +4,10 @@ ghost use Rattle.std.specs.Option.{option_map};
 ghost use Rattle.facet_format.specs.Views.{span_of};
 ghost use Rattle.facet_json_core.specs.ErrorKind.{error_text};
 ghost use Rattle.facet_json_core.specs.ErrorViews.{error_kind_of};
-ghost use Rattle.facet_json_parser.specs.Report.{report_text};
+ghost use Rattle.facet_format.specs.Report.{report_text};
 
 use crate::error::JsonError;
-use facet_json_parser::Place;
+use facet_format::Place;
 use std::fmt;
 
 /// An error with the source that its span is of. Displayed, it is the error's message, and then the place: its line and column,

@@ -7,7 +7,7 @@ ghost use Rattle.facet_json_core.specs.ErrorViews.{error_kind_of};
 
 use crate::error::JsonError;
 use crate::kind::JsonErrorKind;
-use facet_json_parser::message::{write_message, write_named, write_pair, write_quoted};
+use facet_format::message::{write_message, write_named, write_pair, write_quoted};
 use std::fmt;
 
 /// The message: a line for a person, without its line feed.

@@ -4,7 +4,6 @@ pub mod BlockBits
 pub mod EventsInBatch
 pub mod FirstParts
 pub mod KeptSpots
-pub mod Lines
 pub mod MarkSteps
 pub mod OpenRuns
 pub mod MarksAreCut

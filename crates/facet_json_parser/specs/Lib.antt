@@ -1,10 +1,7 @@
 pub mod Lookahead
 pub mod Inner
-pub mod Line
-pub mod Message
 pub mod PartViews
 pub mod Ready
-pub mod Report
 pub mod RunViews
 pub mod Steps
 pub mod Views

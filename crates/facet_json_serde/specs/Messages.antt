@@ -2,7 +2,7 @@
 use Rattle.std.specs.Prelude.{ℕ, List, ◌++◌, Option, Some, None, codes}
 use Rattle.std.specs.Fmt.InlineText.{inline_text}
 use Rattle.facet_format.specs.Views.{complaint_of}
-use Rattle.facet_json_parser.specs.Message.{read_text}
+use Rattle.facet_format.specs.Message.{read_text}
 use Rattle.facet_json_serde.specs.declared.fault.Detail.{Detail}
 use Rattle.facet_json_serde.specs.declared.error.ErrorKind.{ErrorKind}
 use Rattle.facet_json_serde.specs.declared.error.ErrorKind.TheVariants.{Read, TrailingCharacters, MissingField, DuplicateField, UnknownField, UnknownVariant, InvalidLength, InvalidValue, KeyMustBeAString, NotOneValue, Custom}

@@ -3,14 +3,13 @@
 ghost use Rattle.std.specs.Prelude.{◌≡◌, length};
 ghost use Rattle.std.specs.Option.{option_map};
 ghost use Rattle.facet_format.specs.Views.{span_of};
-ghost use Rattle.facet_json_parser.specs.Report.{report_text};
+ghost use Rattle.facet_format.specs.Report.{report_text};
 ghost use Rattle.facet_json_serde.specs.Messages.{kind_message};
 ghost use Rattle.facet_json_serde.specs.Within.{LiesWithin};
 
 use crate::fault::{Detail, ReadFault, ReadFaultKind, Refusal, Sort, WriteFault};
-use facet_format::{DeserializeErrorKind, ParseError, Span};
-use facet_json_parser::Place;
-use facet_json_parser::message::write_message;
+use facet_format::message::write_message;
+use facet_format::{DeserializeErrorKind, ParseError, Place, Span};
 use std::fmt;
 
 /// What is wrong. Displayed, it is a message of one line for a person.

@@ -1,5 +1,0 @@
-use Rattle.std.proofs.Common.{rules}
-use Rattle.facet_json_parser.proofs.line.position_at.Goals as goal
-
-pub returns-clause-line : goal.returns-clause-line
-returns-clause-line c = search rules

@@ -1,4 +1,0 @@
-use Rattle.facet_json_parser.proofs.message.write_message.Goals as goal
-
-pub returns-in-UnexpectedToken : goal.returns-in-UnexpectedToken
-returns-in-UnexpectedToken g c = rw c.in-UnexpectedToken.is c.write_pair.ensures
