@@ -1,7 +1,8 @@
 //! What the definitions of numbers, refusals and cursors mean, in the subject's own words: each law is the contract of a function
 //! without effect.
 
-ghost use Rattle.facet_format.specs.Laws.{NumberIsLongest, NumberIsTested, MemoryIsItsKind, CursorPeekIsNext, PeekChangesNoSkip, StepsAgree, RunsAgree};
+ghost use Rattle.facet_format.specs.Laws.{NumberIsLongest, NumberIsTested, MemoryIsItsKind, CursorPeekIsNext, PeekChangesNoSkip};
+ghost use Rattle.facet_format.specs.Laws.{StepsAgree, RunsAgree};
 
 /// Where more than a minus stands, the number at the start of the bytes is a number, and no longer prefix of them is one
 /// (RFC 8259, section 6).

@@ -1,5 +1,5 @@
-//! What formats share: `Span`, events (`ParseEvent`), `Decimal`, how reading is refused (`DeserializeError`, `ParseError`) and how a refusal
-//! is told to a person (`message`, `Place`), and `FormatParser` and `FormatSerializer`, the traits of parsers and of serializers.
+//! What formats share: `Span`, events (`ParseEvent`), `Decimal`, how reading is refused (`DeserializeError`, `ParseError`) and how a
+//! refusal is told to a person (`message`, `Place`), and `FormatParser` and `FormatSerializer`, the traits of parsers and of serializers.
 #![tactic(auto)]
 
 mod decimal;

@@ -2,7 +2,8 @@
 
 ghost use Rattle.std.specs.Prelude.{◌≡◌, ◌+◌, ◌^◌, ◌<◌, ◌≤◌, true, false, length, drop, map, MatchOption};
 ghost use Rattle.std.specs.Simd.Lanes.{mask_l};
-ghost use Rattle.facet_format.specs.NumberParts.{minus_len, digits_len, fraction_len, sign_len, exponent_len, parts, parts_len, parts_hint, is_bare, is_some_len, begins_number, is_number, ArePartsOf};
+ghost use Rattle.facet_format.specs.NumberParts.{minus_len, digits_len, fraction_len, sign_len, exponent_len, parts, parts_len, parts_hint};
+ghost use Rattle.facet_format.specs.NumberParts.{is_bare, is_some_len, begins_number, is_number, ArePartsOf};
 ghost use Rattle.facet_format.specs.Views.{hint_of};
 ghost use Rattle.facet_format.specs.Inner.Window.{is_no_digit};
 

@@ -4,7 +4,8 @@ ghost use Rattle.std.specs.Prelude.{◌≡◌, ◌+◌, ◌<◌, ◌≤◌, List
 ghost use Rattle.facet_format.specs.declared.event.ParseEvent.{ParseEvent};
 ghost use Rattle.facet_format.specs.Cursor.{next, peek, events, skip, capture, save, restore, restored, span};
 ghost use Rattle.facet_format.specs.Steps.{IsStep};
-ghost use Rattle.facet_format.specs.Views.{answer_of_event, answer_of_events, answer_of_skip, answer_of_capture, answer_of_save, answer_of_span};
+ghost use Rattle.facet_format.specs.Views.{answer_of_event, answer_of_events, answer_of_skip, answer_of_capture, answer_of_save};
+ghost use Rattle.facet_format.specs.Views.{answer_of_span};
 
 use crate::event::{ParseEvent, SavePoint};
 use crate::parse_error::ParseError;

@@ -1,7 +1,8 @@
 //! What every serializer of a format offers: a value is written call by call.
 
 ghost use Rattle.std.specs.Prelude.{◌≡◌};
-ghost use Rattle.facet_format.specs.SerializerCall.{begin_struct, field_key, end_struct, begin_seq, end_seq, scalar, raw_scalar, byte_sequence, byte_array, IsServed, IsServedOrLeft};
+ghost use Rattle.facet_format.specs.SerializerCall.{begin_struct, field_key, end_struct, begin_seq, end_seq, scalar, raw_scalar};
+ghost use Rattle.facet_format.specs.SerializerCall.{byte_sequence, byte_array, IsServed, IsServedOrLeft};
 ghost use Rattle.facet_format.specs.Views.{scalar_value_of};
 
 use crate::event::ScalarValue;

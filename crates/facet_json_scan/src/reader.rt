@@ -1,11 +1,13 @@
 //! A source is read piece by piece into one buffer, and scanned whenever that has grown.
 
-ghost use Rattle.std.specs.Prelude.{◌≡◌, ◌||◌, ℕ, ◌+◌, ◌<◌, ◌==◌, List, [], ◌∷◌, ◌++◌, length, true, false, None, IfOk, IfSome, IfNone, OnOk, vec_len};
+ghost use Rattle.std.specs.Prelude.{◌≡◌, ◌||◌, ℕ, ◌+◌, ◌<◌, ◌==◌, List, [], ◌∷◌, ◌++◌, length, true, false, None, IfOk, IfSome, IfNone};
+ghost use Rattle.std.specs.Prelude.{OnOk, vec_len};
 ghost use Rattle.std.specs.Io.KnownBytes.{Consumes, IsAtEnd};
 ghost use Rattle.facet_json_scan.specs.Scanner.{idle};
 ghost use Rattle.facet_json_scan.specs.ScannerViews.{answered};
 ghost use Rattle.std.specs.List.{All};
-ghost use Rattle.facet_json_scan.specs.Listed.{mode_with, tokens_of_list, rest_after, AreAllOf, AreTokensOf, StandsWithin, StandWithin, ScanRefusalWithin, is_io};
+ghost use Rattle.facet_json_scan.specs.Listed.{mode_with, tokens_of_list, rest_after, AreAllOf, AreTokensOf, StandsWithin, StandWithin};
+ghost use Rattle.facet_json_scan.specs.Listed.{ScanRefusalWithin, is_io};
 ghost use Rattle.facet_json_scan.specs.Inner.Stands.{is_cut, Stands, IsScanned, IsFinished};
 
 use crate::answer::{ScanReadError, Scanned};
@@ -79,8 +81,10 @@ fn scan_pieces<R: ByteSource>(
     requires first { buf.old.items ≡ [] }
     ensures tokens { IfOk result (λ refusal. IfSome (R.left source.old) (λ input.
         AreAllOf input scanner.old.mode (tokens_of_list tokens.new.items (rest_after refusal)))) }
-    ensures so_far { IfOk result (λ refusal. AreAllOf buf.new.items scanner.old.mode (tokens_of_list tokens.new.items (rest_after refusal))) }
-    ensures within { IfOk result (λ refusal. All (StandsWithin (length buf.new.items)) tokens.new.items × ScanRefusalWithin (length buf.new.items) refusal) }
+    ensures so_far { IfOk result (λ refusal.
+        AreAllOf buf.new.items scanner.old.mode (tokens_of_list tokens.new.items (rest_after refusal))) }
+    ensures within { IfOk result (λ refusal.
+        All (StandsWithin (length buf.new.items)) tokens.new.items × ScanRefusalWithin (length buf.new.items) refusal) }
     ensures buffer { IfOk result (λ refusal. Consumes (R.left source.old) (R.left source.new) buf.new.items) }
     ensures read { IfOk result (λ refusal. IfNone refusal
         ((R.ended source.new ≡ true) × IfSome (R.left source.old) (λ input. buf.new.items ≡ input))) }

@@ -6,11 +6,13 @@ ghost use Rattle.facet_json_token.specs.Gap.{plain, jsonc};
 ghost use Rattle.facet_format.specs.Span.{stop, span_at};
 ghost use Rattle.facet_json_token.specs.Cut.{past_gap};
 ghost use Rattle.facet_json_token.specs.Cut as spec_cut;
-ghost use Rattle.facet_json_scan.specs.Scanner.{answer_for, idle, nothing_pending, scanner_at, first_unread, first_byte_of, stands_at_end, Describes, GoesOnFrom, Gives};
+ghost use Rattle.facet_json_scan.specs.Scanner.{answer_for, idle, nothing_pending, scanner_at, first_unread, first_byte_of, stands_at_end};
+ghost use Rattle.facet_json_scan.specs.Scanner.{Describes, GoesOnFrom, Gives};
 ghost use Rattle.facet_json_scan.specs.Scanner as spec_scanner;
 ghost use Rattle.facet_json_token.specs.Views.{mode_of};
 ghost use Rattle.facet_json_scan.specs.ScannerViews.{answered, span_answered, IndicesWithin, stands_last};
-ghost use Rattle.facet_json_scan.specs.Inner.Found.{state_of, pending_of, position_after, FoundFrom, FoundWithin, RefusedThere, PieceHere, PieceWithin};
+ghost use Rattle.facet_json_scan.specs.Inner.Found.{state_of, pending_of, position_after, FoundFrom, FoundWithin, RefusedThere, PieceHere};
+ghost use Rattle.facet_json_scan.specs.Inner.Found.{PieceWithin};
 
 mod gap;
 mod pending;

@@ -103,7 +103,8 @@ impl<'i> Writing<'i> {
     /// Appends what stands before a value, unless that is a comma alone: then it is left to the caller.
     #[inline(always)]
     fn begin_before_comma(&mut self) -> Result<bool, AllocError>
-        ensures { IfOk result (λ after_comma. value_begun (writing_of self.old) ≡ with_text (writing_of self.new) (cond after_comma (comma ∷ []) [])) }
+        ensures { IfOk result (λ after_comma.
+            value_begun (writing_of self.old) ≡ with_text (writing_of self.new) (cond after_comma (comma ∷ []) [])) }
     {
         if self.follows_a_comma() {
             return Ok(true);
@@ -206,7 +207,8 @@ impl<'i> Writing<'i> {
     /// Writes a text between quotes.
     #[inline(always)]
     fn text(&mut self, text: &CowStr<'_>) -> Result<(), JsonSerializeError>
-        ensures { Writes (writing_of self.old) (calls.scalar (event.text (text_of text.now))) (call_answer_of result) (writing_of self.new) }
+        ensures { Writes (writing_of self.old) (calls.scalar (event.text (text_of text.now))) (call_answer_of result)
+            (writing_of self.new) }
     {
         let after_comma = self.begin_before_comma()?;
         push_framed(&mut self.out, after_comma, text.as_str(), false)?;

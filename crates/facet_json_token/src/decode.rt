@@ -1,7 +1,8 @@
 //! Strings' contents to text (RFC 8259, section 7), in one pass: runs of bytes up to a backslash are checked and copied
 //! whole, and escapes between them are read one by one, in `escape`.
 
-ghost use Rattle.std.specs.Prelude.{◌≡◌, ℕ, ◌≤◌, ◌<◌, List, [], Some, None, true, false, length, slice_range, slice_index, string_bytes, IfOk, IfErr, IfSome, IsSome, IsUtf8, MatchOption, MatchResult};
+ghost use Rattle.std.specs.Prelude.{◌≡◌, ℕ, ◌≤◌, ◌<◌, List, [], Some, None, true, false, length, slice_range, slice_index, string_bytes};
+ghost use Rattle.std.specs.Prelude.{IfOk, IfErr, IfSome, IsSome, IsUtf8, MatchOption, MatchResult};
 ghost use Rattle.std.specs.Cow.{cow_str_bytes, IsOwnedStr, IsBorrowedStr};
 ghost use Rattle.facet_json_token.specs.declared.decode.DecodeError.TheVariants as refusal;
 ghost use Rattle.facet_format.specs.Bytes.{backslash};

@@ -1,7 +1,7 @@
 //! One token of JSON text (RFC 8259, sections 2, 6 and 7, and JSONC comments), and what it stands for: `cut` finds the token at an offset,
 //! `decode_string` and its kin read what a string holds, `parse_number` reads a number, and `check_string_strict` and
-//! `check_number_strict` say whether these are of RFC 8259 alone. What is wrong is told by enums, as a `Fault`; users see a `ScanError`, with
-//! a text. `facet_json_scan` cuts tokens off buffers that grow.
+//! `check_number_strict` say whether these are of RFC 8259 alone. What is wrong is told by enums, as a `Fault`; users see a `ScanError`,
+//! with a text. `facet_json_scan` cuts tokens off buffers that grow.
 #![tactic(auto)]
 
 mod ascii;

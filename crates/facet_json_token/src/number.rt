@@ -1,6 +1,7 @@
 //! The values of numbers.
 
-ghost use Rattle.std.specs.Prelude.{◌≡◌, ℕ, ◌+◌, ◌*◌, ◌≤◌, ◌<◌, ◌^◌, pos, neg_ℤ, true, false, None, Some, length, drop, slice_range, IsUtf8, IfErr, IfOk, MatchOption, MatchResult};
+ghost use Rattle.std.specs.Prelude.{◌≡◌, ℕ, ◌+◌, ◌*◌, ◌≤◌, ◌<◌, ◌^◌, pos, neg_ℤ, true, false, None, Some, length, drop, slice_range};
+ghost use Rattle.std.specs.Prelude.{IsUtf8, IfErr, IfOk, MatchOption, MatchResult};
 ghost use Rattle.std.specs.Option.{option_map, IfSome};
 ghost use Rattle.facet_format.specs.Number.{AreDigits, float, unsigned};
 ghost use Rattle.facet_format.specs.Event.{borrowed};

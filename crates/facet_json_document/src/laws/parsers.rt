@@ -5,7 +5,8 @@ ghost use Rattle.facet_json_document.specs.Headline.{Headline};
 ghost use Rattle.facet_json_document.specs.StrictHeadline.{EndsInTimeIn, StrictHeadline};
 ghost use Rattle.facet_json_document.specs.OneRun.{StrictEndsAtRun, StrictTellsRun};
 ghost use Rattle.facet_json_document.specs.SkipLaws.{SkipPassesRun, CapturePassesRun};
-ghost use Rattle.facet_json_document.specs.CallLaws.{MoveIsStep, PeekIsNext, RefusalRepeats, SaveIsNumbered, RestoreBringsBack, NumbersAreNew, UnknownChangesNothing, EndsInTime};
+ghost use Rattle.facet_json_document.specs.CallLaws.{MoveIsStep, PeekIsNext, RefusalRepeats, SaveIsNumbered, RestoreBringsBack};
+ghost use Rattle.facet_json_document.specs.CallLaws.{NumbersAreNew, UnknownChangesNothing, EndsInTime};
 
 /// What a new parser of any input answers. Where the input has a document, it answers every list of calls as a cursor on the
 /// document's walk does from its start. Where it has none, it answers the next event alone with the events of the longest

@@ -1,7 +1,8 @@
 //! Laws about begun documents: prefixes of tokens with which some document begins, and what they give.
 
 ghost use Rattle.facet_json_document.specs.StrictLaws.{StrictInputComes, StrictIsPlain};
-ghost use Rattle.facet_json_document.specs.EventLaws.{BegunIsPrefix, PrefixIsBegun, PrefixGivesWalk, OneGiven, InputComes, RefusedHasNone, RefusedInOneWay};
+ghost use Rattle.facet_json_document.specs.EventLaws.{BegunIsPrefix, PrefixIsBegun, PrefixGivesWalk, OneGiven, InputComes, RefusedHasNone};
+ghost use Rattle.facet_json_document.specs.EventLaws.{RefusedInOneWay};
 
 /// Tokens that begin a document are a prefix of the spelling of some value, all of whose texts and numbers can be read.
 pub fn begun_is_prefix()

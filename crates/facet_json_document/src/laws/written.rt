@@ -48,17 +48,17 @@ pub fn written_is_rfc_text()
 /// The text of a tree is a strict document, which a strict parser reads as well, where the indent is white space, decimals are numbers of
 /// RFC 8259 and raw parts are strict documents.
 ///
-/// So a list of the decimal `1.5` and of raw text ` [] ` is written `[1.5, [] ]`, which is one; a list of raw text `[1,]` is written `[[1,]]`,
-/// which no strict parser reads.
+/// So a list of the decimal `1.5` and of raw text ` [] ` is written `[1.5, [] ]`, which is one; a list of raw text `[1,]` is written
+/// `[[1,]]`, which no strict parser reads.
 pub fn written_is_strict()
     ensures { WrittenIsStrict }
 {}
 
-/// The strict documents are the texts of RFC 8259 (sections 2 to 8) whose strings have a text and whose whole numbers lie within 128 bits. The
-/// grammar knows nothing of tokens, and shares no leaf with the reader.
+/// The strict documents are the texts of RFC 8259 (sections 2 to 8) whose strings have a text and whose whole numbers lie within 128 bits.
+/// The grammar knows nothing of tokens, and shares no leaf with the reader.
 ///
-/// So ` [1, "a"] ` is one; `[1,]`, `01` and a text with a tab between its quotes are none; and `"\ud800"` is a text of the RFC, but none with a
-/// text, since its surrogate stands alone.
+/// So ` [1, "a"] ` is one; `[1,]`, `01` and a text with a tab between its quotes are none; and `"\ud800"` is a text of the RFC, but none
+/// with a text, since its surrogate stands alone.
 pub fn strict_is_rfc()
     ensures { StrictIsRfc }
 {}

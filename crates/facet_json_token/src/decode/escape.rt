@@ -1,11 +1,13 @@
 //! Escapes of a string (RFC 8259, section 7): what a backslash and the bytes after it stand for.
 
-ghost use Rattle.std.specs.Prelude.{◌≡◌, ◌+◌, ◌*◌, ◌^◌, ◌≤◌, ◌<◌, Some, None, true, length, drop, slice_get, slice_index, IfOk, IfErr, IfSome};
+ghost use Rattle.std.specs.Prelude.{◌≡◌, ◌+◌, ◌*◌, ◌^◌, ◌≤◌, ◌<◌, Some, None, true, length, drop, slice_get, slice_index, IfOk, IfErr};
+ghost use Rattle.std.specs.Prelude.{IfSome};
 ghost use Rattle.std.specs.Char.{digit_value};
 ghost use Rattle.facet_format.specs.Bytes.{backslash, lower_u};
 ghost use Rattle.facet_format.specs.Complaint.{invalid_utf8, refusal_at};
 ghost use Rattle.facet_format.specs.Span.{span_at};
-ghost use Rattle.facet_json_token.specs.Decode.{short_escape as short_escape_of, code_unit as code_unit_of, is_high_surrogate as is_high_surrogate_of, is_low_surrogate as is_low_surrogate_of};
+ghost use Rattle.facet_json_token.specs.Decode.{short_escape as short_escape_of, code_unit as code_unit_of};
+ghost use Rattle.facet_json_token.specs.Decode.{is_high_surrogate as is_high_surrogate_of, is_low_surrogate as is_low_surrogate_of};
 ghost use Rattle.facet_json_token.specs.Decoded.{piece_at, short_of, low_at};
 ghost use Rattle.facet_json_token.specs.Fault.{decode_fault_at, fault_refusal, no_character, not_digits};
 ghost use Rattle.facet_json_token.specs.FirstFault.{fault_of, pair_fault};

@@ -1,6 +1,7 @@
 //! The decoders for contents that are known to be UTF-8, which they don't check again.
 
-ghost use Rattle.std.specs.Prelude.{◌≡◌, ℕ, ◌+◌, ◌≤◌, List, Some, true, false, length, slice_range, string_bytes, IfOk, IfErr, IfSome, IsUtf8, MatchOption, MatchResult};
+ghost use Rattle.std.specs.Prelude.{◌≡◌, ℕ, ◌+◌, ◌≤◌, List, Some, true, false, length, slice_range, string_bytes, IfOk, IfErr, IfSome};
+ghost use Rattle.std.specs.Prelude.{IsUtf8, MatchOption, MatchResult};
 ghost use Rattle.std.specs.Cow.{cow_str_bytes, IsOwnedStr, IsBorrowedStr};
 ghost use Rattle.facet_json_token.specs.Decode.{Decodes};
 ghost use Rattle.facet_json_token.specs.Decoded.{decoded};
