@@ -2,6 +2,7 @@ pub mod AsciiTexts
 pub mod CursorAgrees
 pub mod CursorRows
 pub mod CursorSteps
+pub mod DigitNumbers
 pub mod EachBelow
 pub mod HeldTexts
 pub mod KeptLaws

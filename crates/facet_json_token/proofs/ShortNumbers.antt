@@ -7,6 +7,7 @@ use Rattle.facet_format.specs.Bytes.{is_digit, minus}
 use Rattle.facet_format.specs.Number.{AreDigits, none, digit, IsMinus, IsFraction, IsExponent, unsigned}
 use Rattle.facet_format.specs.NumberValue.{unsigned_number, u64, u128, digits_value, number}
 use Rattle.facet_format.specs.NumberParts.{is_number}
+use Rattle.facet_format.proofs.DigitNumbers.{digits-number as digits-are_number}
 use Rattle.facet_format.proofs.NumberText.{number-unsigned}
 use Rattle.facet_format.proofs.NumberLaws.{is_number-complete}
 
@@ -24,31 +25,9 @@ pub some-bytes : (bytes : List ℕ) → false ≡ (length bytes == 0) → bytes 
 some-bytes [] e is = cc
 some-bytes (b ∷ bytes) e is = cc
 
-no_minus : (bytes : List ℕ) → AreDigits bytes → bytes ≢ minus ∷ []
-no_minus _ none e = cc
-no_minus _ (digit b bytes is others) e = cc
-
 -- Digits, at least one, are a number without a sign.
 pub digits-number : (bytes : List ℕ) → AreDigits bytes → bytes ≢ [] → is_number bytes unsigned ≡ true
-digits-number bytes are some = is_number-complete bytes unsigned (record {
-  numeral = record {
-    sign = [];
-    digits = bytes;
-    fraction = [];
-    exponent = [];
-    has_minus = false;
-    has_fraction = false;
-    has_exponent = false;
-    is_minus = IsMinus.absent;
-    are_digits = are;
-    is_fraction = IsFraction.absent;
-    is_exponent = IsExponent.absent;
-    whole = sym (append-nil (bytes ++ []) ∙ append-nil bytes);
-    starts = some;
-    kind = refl;
-  };
-  more = no_minus bytes are;
-})
+digits-number bytes are some = is_number-complete bytes unsigned (digits-are_number bytes are some)
 
 -- A number without a sign that fits 64 bits is what its digits spell.
 pub short-number : (text : List ℕ) (n : ℕ) → is_number text unsigned ≡ true → n ≡ digits_value 0 text → n < 2 ^ 64 → Some (u64 n) ≡ number text unsigned

@@ -12,6 +12,7 @@ use Rattle.facet_format.specs.Number.{unsigned, signed, float, AreDigits, IsMinu
 use Rattle.facet_format.specs.NumberValue.{Number, digits_value, unsigned_number, negative_number, number}
 use Rattle.facet_format.specs.NumberParts.{parts}
 use Rattle.facet_format.specs.NumberValue as numbers
+use Rattle.facet_format.proofs.DigitNumbers.{digits-number, minus-number}
 use Rattle.facet_format.proofs.NumberLaws.{is_number-complete}
 use Rattle.facet_format.proofs.NumberText.{number-unsigned, number-signed}
 use Rattle.facet_json_document.specs.Meaning.{tree_of_number}
@@ -38,60 +39,7 @@ decimal-value n h =
 decimal-some : (n : ℕ) → n < 10 ^ 64 → decimal n ≢ []
 decimal-some n h e = omega (arith, (decimal_is_IsNumeral_wide n h).0.0, ap length e)
 
--- No digits begin with a minus.
-digits-no_minus : (bytes others : List ℕ) → AreDigits bytes → bytes ≢ minus ∷ others
-digits-no_minus _ others AreDigits.none e = cc
-digits-no_minus _ others (AreDigits.digit b bytes is are) e =
-    let same : b ≡ minus = cc in
-    both_ways (is_digit minus) refl (ap is_digit (sym same) ∙ is)
-
 -- ---- numbers
-
--- Digits are an unsigned number.
-digits-number : (bytes : List ℕ) → AreDigits bytes → bytes ≢ [] → IsNumber bytes unsigned
-digits-number bytes are some =
-    record {
-      numeral = record {
-        sign = [];
-        digits = bytes;
-        fraction = [];
-        exponent = [];
-        has_minus = false;
-        has_fraction = false;
-        has_exponent = false;
-        is_minus = IsMinus.absent;
-        are_digits = are;
-        is_fraction = IsFraction.absent;
-        is_exponent = IsExponent.absent;
-        whole = sym (append-nil (bytes ++ []) ∙ append-nil bytes);
-        starts = some;
-        kind = refl;
-      };
-      more = digits-no_minus bytes [] are;
-    }
-
--- A minus and digits are a signed number.
-minus-number : (bytes : List ℕ) → AreDigits bytes → bytes ≢ [] → IsNumber (minus ∷ bytes) signed
-minus-number bytes are some =
-    record {
-      numeral = record {
-        sign = minus ∷ [];
-        digits = bytes;
-        fraction = [];
-        exponent = [];
-        has_minus = true;
-        has_fraction = false;
-        has_exponent = false;
-        is_minus = IsMinus.present;
-        are_digits = are;
-        is_fraction = IsFraction.absent;
-        is_exponent = IsExponent.absent;
-        whole = sym (append-nil (minus ∷ bytes ++ []) ∙ append-nil (minus ∷ bytes));
-        starts = λ e. cc;
-        kind = refl;
-      };
-      more = λ e. some (ap (drop 1) e);
-    }
 
 -- Digits have the value that they spell.
 digits-have_value : (bytes : List ℕ) → AreDigits bytes → bytes ≢ [] →
