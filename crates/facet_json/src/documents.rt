@@ -6,11 +6,11 @@ ghost use Rattle.facet_format.specs.Views.{refusal_of};
 ghost use Rattle.facet_json_document.specs.UnreadLaws.{RefusalWithin};
 ghost use Rattle.facet_json.specs.Documents.{rest, moved as moved_refusal, NextGives};
 
-use crate::prefix::from_slice_prefix;
 use facet_format::{DeserializeError, Span};
 use facet_json_facet::Facet;
 use facet_json_token::Mode;
 use facet_json_token::cutting::skip_gap;
+use facet_json_typed::from_slice_prefix;
 use std::alloc::Global;
 use std::marker::{Model, PhantomData};
 

@@ -9,20 +9,15 @@
 #![tactic(auto)]
 
 mod documents;
-mod fields;
 mod find_error;
 pub mod float;
 pub mod laws;
-mod lent;
 mod line_pieces;
 mod lines;
 pub mod made;
 mod pointer;
-mod prefix;
-mod reading;
 pub mod scanner;
 pub mod steps;
-mod strict;
 mod writers;
 mod writing;
 
@@ -51,15 +46,13 @@ pub use facet_json_tree::{
     tree_from_slice_jsonc, tree_from_slice_strict, tree_from_slice_within,
     tree_from_slice_within_jsonc, tree_from_slice_within_strict, write_tree,
 };
-pub use fields::{Done, Fields, Maybe, Need, read_fields};
-pub use lent::{LentFields, write_fields};
-pub use lines::{Line, LineError, Lines};
-pub use prefix::{from_slice_prefix, from_str_prefix};
-pub use reading::{
-    from_slice, from_slice_borrowed, from_slice_borrowed_jsonc, from_slice_jsonc, from_str,
-    from_str_borrowed, from_str_borrowed_jsonc, from_str_jsonc,
+pub use facet_json_typed::{
+    Done, Fields, LentFields, Maybe, Need, from_slice, from_slice_borrowed,
+    from_slice_borrowed_jsonc, from_slice_jsonc, from_slice_prefix, from_slice_strict, from_str,
+    from_str_borrowed, from_str_borrowed_jsonc, from_str_jsonc, from_str_prefix, from_str_strict,
+    read_fields, write_fields,
 };
-pub use strict::{from_slice_strict, from_str_strict};
+pub use lines::{Line, LineError, Lines};
 pub use writers::{to_writer_std, to_writer_std_pretty, to_writer_std_with_options};
 pub use writing::{
     to_string, to_string_pretty, to_string_with_options, to_vec, to_vec_pretty, to_vec_with_options,
