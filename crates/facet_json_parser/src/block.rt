@@ -19,7 +19,7 @@ fn equal_to(v: u8x64, byte: u8) -> u64
 fn calm(v: u8x64) -> u64
     ensures { (i : ℕ) → i < 64 → test result i ≡ is_calm (get_or v i 0) }
 {
-    // A tab and a carriage return differ in this bit alone.
+    // A tab and a carriage return differ in this bit alone; the colon stands right behind the digits.
     let paired = v | u8x64::splat(4);
     (v.simd_eq(u8x64::splat(b' '))
         | v.simd_eq(u8x64::splat(b'\n'))
@@ -34,6 +34,7 @@ fn calm(v: u8x64) -> u64
 fn parities(x: u64) -> u64
     ensures { (i : ℕ) → i < 64 → test result i ≡ parity x (i + 1) }
 {
+    // Each bit is the parity of the two up to it, then of four, and last of all 64, since each step joins twice as many.
     let a = x ^ (x << 1);
     let b = a ^ (a << 2);
     let c = b ^ (b << 4);
@@ -53,7 +54,9 @@ pub(crate) fn block(v: u8x64, within: bool) -> (u64, u64)
     if within && quotes | slashes == 0 {
         return (0, u64::MAX);
     }
+    // Where a text goes on into the block, each bit is turned: zero minus one has all bits.
     let texts = parities(quotes) ^ 0u64.wrapping_sub(within as u64);
+    // A backslash needs a look where a quote or another backslash is behind it, which it may escape, or the block ends.
     let hard = slashes & (((quotes | slashes) >> 1) | (1 << 63));
     (!(calm(v) | texts) | hard, texts)
 }

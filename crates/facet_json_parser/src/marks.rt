@@ -88,6 +88,7 @@ fn pass_block(
 /// Whether so many bytes are marked that tokens pass them faster.
 #[inline(always)]
 fn is_dense(marks: u64) -> bool {
+    // A mark with none right before it begins a run of marks.
     (marks & !(marks << 1)).count_ones() > 9 || marks.count_ones() > 40
 }
 
@@ -131,6 +132,7 @@ fn pass_marks(
         if !goes_on || behind == 0 || behind >= 64 || (texts >> (behind - 1)) % 2 == 1 {
             return Ok(settled_at(passed, goes_on));
         }
+        // What stands before this byte was passed with its token.
         left &= u64::MAX << behind;
     }
     Ok(behind_block(input, passed, at + 64, texts >> 63 == 1))

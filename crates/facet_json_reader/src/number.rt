@@ -286,6 +286,7 @@ fn few_digits(input: &[u8], at: usize, len: usize) -> u64
     let shift = 64 - 8 * len;
     let bytes = eight_bytes(input, at) << shift;
     let zeros = 0x3030_3030_3030_3030_u64 << shift;
+    // Each byte is at least the zero below it, so none borrows of the next; and each sum fits the lane that its mask leaves.
     let digits = bytes - zeros;
     let pairs = (digits * 10 + (digits >> 8)) & 0x00FF_00FF_00FF_00FF;
     let fours = (pairs * 100 + (pairs >> 16)) & 0x0000_FFFF_0000_FFFF;
@@ -367,6 +368,7 @@ fn begins_part(byte: u8) -> bool
 fn no_digits(window: u8x16) -> u64
     ensures { result ≡ mask_l (map is_no_digit window) }
 {
+    // A byte below `0` wraps around, past 9.
     (window - u8x16::splat(b'0'))
         .simd_ge(u8x16::splat(10))
         .to_bitmask()
