@@ -108,7 +108,7 @@ impl<'de, T: Leaf> Facet<'de> for T {
     ) -> Result<T, DeserializeError<'t>> {
         match T::take_quickly(alloc, parser) {
             Some(answer) => answer,
-            None => take_slowly(alloc, parser),
+            None => take_out_of_line(alloc, parser),
         }
     }
 
@@ -130,7 +130,7 @@ impl<'de, T: Leaf> Facet<'de> for T {
 ///
 /// No event comes, or it is no value of the type.
 #[inline(never)]
-fn take_slowly<'t, T: Leaf>(
+fn take_out_of_line<'t, T: Leaf>(
     alloc: Global,
     parser: &mut JsonParser<'_>,
 ) -> Result<T, DeserializeError<'t>>

@@ -102,7 +102,7 @@ impl<'de> Facet<'de> for &'de str {
     ) -> Result<&'de str, DeserializeError<'t>> {
         match take_next(parser) {
             Some((text, _)) => Ok(text),
-            None => lent_slowly(parser),
+            None => lent_out_of_line(parser),
         }
     }
 
@@ -132,7 +132,7 @@ fn owned_text<'t>(alloc: Global, text: &str) -> Result<String, DeserializeError<
 ///
 /// No event comes, or it is no such text.
 #[inline(never)]
-fn lent_slowly<'t, 'de>(parser: &mut JsonParser<'de>) -> Result<&'de str, DeserializeError<'t>>
+fn lent_out_of_line<'t, 'de>(parser: &mut JsonParser<'de>) -> Result<&'de str, DeserializeError<'t>>
     ensures read { IfOk result (λ s. IsRead borrowed_text parser.old s.now parser.new) }
     ensures unread { IfErr result (λ e. IsUnread borrowed_text parser.old (refusal_of e)) }
     ensures document { OnOk result (HasDocument parser.old) }

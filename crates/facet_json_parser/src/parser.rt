@@ -244,13 +244,13 @@ impl<'de> JsonParser<'de> {
     fn next_apart<'t>(&mut self) -> Result<Option<ParseEvent<'de>>, ParseError<'t>>
         ensures { Moves self.old next (answer_of_event result) self.new }
     {
-        let result = self.next_by_tokens();
+        let result = self.next_out_of_line();
         result
     }
 
     /// The next event, token by token.
     #[inline(never)]
-    fn next_by_tokens<'t>(&mut self) -> Result<Option<ParseEvent<'de>>, ParseError<'t>>
+    fn next_out_of_line<'t>(&mut self) -> Result<Option<ParseEvent<'de>>, ParseError<'t>>
         ensures { Moves self.old next (answer_of_event result) self.new }
     {
         self.unrefused()?;

@@ -211,13 +211,13 @@ fn decimal_event<'de>(
     ensures number { let text = slice_range input.now at (at + len)
         in IfSome result (λ _. spec_number text float ≡ Some (spec_decimal text)) }
 {
-    let event = decimal_event_by_call(reader, input, at, len);
+    let event = decimal_event_out_of_line(reader, input, at, len);
     event
 }
 
 /// Passes a decimal as `decimal_event`, by a call: it stays out of the code of other events.
 #[inline(never)]
-fn decimal_event_by_call<'de>(
+fn decimal_event_out_of_line<'de>(
     reader: &mut Reader,
     input: &'de [u8],
     at: usize,

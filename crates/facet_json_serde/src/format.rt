@@ -83,7 +83,7 @@ impl<'de> Json<'de> {
 
     /// A text in memory of its own, as a value or as a key, by an event.
     #[inline(never)]
-    fn string_slowly(&mut self, alloc: Global, input: &[u8]) -> Result<String, ReadFault>
+    fn string_out_of_line(&mut self, alloc: Global, input: &[u8]) -> Result<String, ReadFault>
         ensures { IfOk result (λ v. StepGives self.old [] (text (string_bytes v)) self.new) }
     {
         owned(alloc, self.text(input)?)
@@ -91,7 +91,7 @@ impl<'de> Json<'de> {
 
     /// Whether an item comes, which stays the next one, by an event.
     #[inline(never)]
-    fn next_item_slowly(&mut self) -> Result<bool, ReadFault>
+    fn next_item_out_of_line(&mut self) -> Result<bool, ReadFault>
         ensures { IfOk result (λ b. MatchBool b (Stays self.old self.new)
             (StepGives self.old [] seq_ends self.new)) }
     {
@@ -232,7 +232,7 @@ impl<'de> Format for Json<'de> {
                 return owned(alloc, CowStr::Borrowed(text));
             }
         }
-        Ok(self.string_slowly(alloc, input)?)
+        Ok(self.string_out_of_line(alloc, input)?)
     }
 
     fn byte_buf(&mut self, alloc: Global, input: &[u8]) -> Result<Vec<u8>, ReadFault> {
@@ -283,13 +283,13 @@ impl<'de> Format for Json<'de> {
         }
         match self.wanted() {
             Some(ListEnd) => Ok(false),
-            None => Ok(self.next_item_slowly()?),
+            None => Ok(self.next_item_out_of_line()?),
         }
     }
 
     /// An item that comes is one too many, and the error is about it.
     fn end_tuple(&mut self, _input: &[u8]) -> Result<(), ReadFault> {
-        if self.next_item_slowly()? {
+        if self.next_item_out_of_line()? {
             Err(self.wrong_len())
         } else {
             Ok(())

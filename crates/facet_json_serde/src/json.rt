@@ -392,13 +392,13 @@ impl<'de> Json<'de> {
         }
         match self.wanted() {
             Some(Null) => Ok(true),
-            None => Ok(self.passes_null_slowly()?),
+            None => Ok(self.passes_null_out_of_line()?),
         }
     }
 
     /// Whether a null came, and is passed, by a look ahead.
     #[inline(never)]
-    fn passes_null_slowly(&mut self) -> Result<bool, ReadFault>
+    fn passes_null_out_of_line(&mut self) -> Result<bool, ReadFault>
         ensures { IfOk result (λ b. MatchBool b (StepGives self.old [] nothing self.new)
             (Stays self.old self.new)) }
     {
@@ -429,12 +429,12 @@ impl<'de> Json<'de> {
                 return Ok(CowStr::Borrowed(text));
             }
         }
-        Ok(self.text_slowly(input)?)
+        Ok(self.text_out_of_line(input)?)
     }
 
     /// A text or a key, by its event.
     #[inline(never)]
-    fn text_slowly(&mut self, input: &[u8]) -> Result<CowStr<'de>, ReadFault>
+    fn text_out_of_line(&mut self, input: &[u8]) -> Result<CowStr<'de>, ReadFault>
         ensures text { IfOk result
             (λ t. StepReads self.old (λ given. HoldsText given.kind (cow_str_bytes t)) self.new) }
         ensures key { self.old.at_key ≡ true → IfOk result
@@ -469,14 +469,14 @@ impl<'de> Json<'de> {
         match self.member() {
             Some(Member::Key(name)) => Ok(Some(CowStr::Borrowed(name))),
             Some(Member::End) => Ok(None),
-            None => Ok(self.key_slowly()?),
+            None => Ok(self.key_out_of_line()?),
         }
     }
 
     /// A key, or the end of the map, by its event.
     #[cold]
     #[inline(never)]
-    fn key_slowly(&mut self) -> Result<Option<CowStr<'de>>, ReadFault>
+    fn key_out_of_line(&mut self) -> Result<Option<CowStr<'de>>, ReadFault>
         ensures { IfOk result (λ o. MatchOption o (StepGives self.old [] map_ends self.new)
             (λ key. StepReads self.old (λ given. HoldsKey given.kind (cow_str_bytes key)) self.new)) }
     {

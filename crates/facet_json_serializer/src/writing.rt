@@ -80,12 +80,12 @@ impl<'i> Writing<'i> {
         if self.stack.list_mark().is_none() {
             return Ok(());
         }
-        self.begin_apart()
+        self.begin_out_of_line()
     }
 
     /// Appends what stands before a value, out of line: for the first value, outside a list, and where the text is indented.
     #[inline(never)]
-    fn begin_apart(&mut self) -> Result<(), AllocError>
+    fn begin_out_of_line(&mut self) -> Result<(), AllocError>
         ensures { OnOk result (writing_of self.new ≡ value_begun (writing_of self.old)) }
     {
         let Some(is_empty) = self.stack.list_mark() else {
@@ -200,7 +200,7 @@ impl<'i> Writing<'i> {
             ScalarValue::U64(n) => self.unsigned(*n),
             ScalarValue::I64(n) => self.signed(*n),
             ScalarValue::Str(text) => self.text(text),
-            _ => self.scalar_apart(value),
+            _ => self.scalar_out_of_line(value),
         }
     }
 
@@ -237,7 +237,7 @@ impl<'i> Writing<'i> {
 
     /// Writes a value of any kind that holds no others.
     #[inline(never)]
-    fn scalar_apart(&mut self, value: &ScalarValue<'_>) -> Result<(), JsonSerializeError>
+    fn scalar_out_of_line(&mut self, value: &ScalarValue<'_>) -> Result<(), JsonSerializeError>
         ensures { Writes (writing_of self.old) (calls.scalar (scalar_value_of value.now)) (call_answer_of result) (writing_of self.new) }
     {
         self.begin_value()?;

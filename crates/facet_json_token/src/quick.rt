@@ -55,7 +55,7 @@ pub fn empty_gap_end(buffer: &[u8], position: usize, mode: Mode) -> usize
     ensures within { result ≤ length buffer.now }
 {
     match buffer.get(position) {
-        Some(b' ' | b'\t' | b'\n' | b'\r' | b'/') => blank_end_apart(buffer, position, mode),
+        Some(b' ' | b'\t' | b'\n' | b'\r' | b'/') => blank_end_out_of_line(buffer, position, mode),
         Some(_) => position,
         None => skip_gap(buffer, position, mode),
     }
@@ -63,7 +63,7 @@ pub fn empty_gap_end(buffer: &[u8], position: usize, mode: Mode) -> usize
 
 /// The offset after the gap at `position`, by a call.
 #[inline(never)]
-fn blank_end_apart(buffer: &[u8], position: usize, mode: Mode) -> usize
+fn blank_end_out_of_line(buffer: &[u8], position: usize, mode: Mode) -> usize
     requires { position ≤ length buffer.now }
     ensures end { result ≡ past_gap buffer.now position (mode_of mode) }
     ensures within { result ≤ length buffer.now }

@@ -101,13 +101,13 @@ pub fn take_end<'t>(parser: &mut JsonParser<'_>) -> Result<bool, DeserializeErro
     }
     match take_next(parser) {
         Some((ListEnd, _)) => Ok(true),
-        None => take_end_slowly(parser),
+        None => take_end_out_of_line(parser),
     }
 }
 
 /// Whether the array's end came, and is passed, by a peek: where a few bytes do not decide it.
 #[inline(never)]
-fn take_end_slowly<'t>(parser: &mut JsonParser<'_>) -> Result<bool, DeserializeError<'t>>
+fn take_end_out_of_line<'t>(parser: &mut JsonParser<'_>) -> Result<bool, DeserializeError<'t>>
     ensures onward { GoesOn parser.old parser.new }
     ensures taken { IfOk result (λ ended. ended ≡ true → TakesEnd parser.old parser.new) }
     ensures stays { IfOk result (λ ended. ended ≡ false → StaysBefore ends_list parser.old parser.new) }

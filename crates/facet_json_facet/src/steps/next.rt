@@ -97,13 +97,13 @@ pub(crate) fn take_null<'t>(parser: &mut JsonParser<'_>) -> Result<bool, Deseria
     }
     match take_next(parser) {
         Some((Null, _)) => Ok(true),
-        None => take_null_slowly(parser),
+        None => take_null_out_of_line(parser),
     }
 }
 
 /// Whether a null came, and is passed, by a peek: where a few bytes do not decide it.
 #[inline(never)]
-fn take_null_slowly<'t>(parser: &mut JsonParser<'_>) -> Result<bool, DeserializeError<'t>>
+fn take_null_out_of_line<'t>(parser: &mut JsonParser<'_>) -> Result<bool, DeserializeError<'t>>
     ensures onward { GoesOn parser.old parser.new }
     ensures taken { IfOk result (λ is. is ≡ true → TakesNull parser.old parser.new) }
     ensures stays { IfOk result (λ is. is ≡ false → StaysBefore is_null_event parser.old parser.new) }

@@ -30,7 +30,7 @@ returns-in-Some-clause-tells g c =
     IfErr-weaker c.in-Some.answer _ _ (λ e told. lacks-tells took.1.passed (g.met.T.Leaf.refuses_about _ _ told)) took.2.told
 
 pub returns-in-None-clause-read : goal.returns-in-None-clause-read
-returns-in-None-clause-read g c = rw c.in-None.ensures at c.take_slowly.ensures.read
+returns-in-None-clause-read g c = rw c.in-None.ensures at c.take_out_of_line.ensures.read
 
 pub returns-in-None-clause-unread : goal.returns-in-None-clause-unread
-returns-in-None-clause-unread g c = rw c.in-None.ensures at c.take_slowly.ensures.unread
+returns-in-None-clause-unread g c = rw c.in-None.ensures at c.take_out_of_line.ensures.unread

@@ -12,7 +12,7 @@ pub returns-in-Some-clause-strict : goal.returns-in-Some-clause-strict
 returns-in-Some-clause-strict c whole = borrowed-strict _ _ _ c.in-Some.text.now c.in-Some.ensures.passed refl
 
 pub returns-in-None-clause-read : goal.returns-in-None-clause-read
-returns-in-None-clause-read c = rw c.in-None.ensures at c.lent_slowly.ensures.read
+returns-in-None-clause-read c = rw c.in-None.ensures at c.lent_out_of_line.ensures.read
 
 pub returns-in-None-clause-unread : goal.returns-in-None-clause-unread
-returns-in-None-clause-unread c = rw c.in-None.ensures at c.lent_slowly.ensures.unread
+returns-in-None-clause-unread c = rw c.in-None.ensures at c.lent_out_of_line.ensures.unread

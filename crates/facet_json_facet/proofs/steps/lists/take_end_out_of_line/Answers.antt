@@ -5,7 +5,7 @@ use Rattle.facet_json_core.specs.Meaning.ListSteps.{ends_list}
 use Rattle.facet_json_core.proofs.Meaning.OneValue.KindsPassed.{list-ended}
 use Rattle.facet_json_core.proofs.Meaning.OneValue.WithinValues.{inside-stays, next-is}
 use Rattle.facet_json_core.proofs.Meaning.Walks.LookAhead.{finds-lacks, finds-stays, finds-takes}
-use Rattle.facet_json_facet.proofs.steps.lists.take_end_slowly.Goals as goal
+use Rattle.facet_json_facet.proofs.steps.lists.take_end_out_of_line.Goals as goal
 
 pub returns-in_err-_end-clause-lacks : goal.returns-in_err-_end-clause-lacks
 returns-in_err-_end-clause-lacks c =

@@ -5,7 +5,7 @@ use Rattle.facet_json_core.specs.Meaning.Optional.{is_null_event}
 use Rattle.facet_json_core.proofs.Meaning.OneValue.KindsPassed.{null-passed}
 use Rattle.facet_json_core.proofs.Meaning.OneValue.WithinValues.{value-stays, next-is}
 use Rattle.facet_json_core.proofs.Meaning.Walks.LookAhead.{finds-lacks, finds-stays, finds-takes}
-use Rattle.facet_json_facet.proofs.steps.next.take_null_slowly.Goals as goal
+use Rattle.facet_json_facet.proofs.steps.next.take_null_out_of_line.Goals as goal
 
 pub returns-in_err-_null-clause-lacks : goal.returns-in_err-_null-clause-lacks
 returns-in_err-_null-clause-lacks c =

@@ -3,7 +3,7 @@ use Rattle.facet_format.specs.Views.{refusal_of}
 use Rattle.facet_json_core.proofs.Refusing.{lacks-tells}
 use Rattle.facet_json_core.specs.Meaning.Readings.{leaf}
 use Rattle.facet_json_core.proofs.Meaning.Leaves.LeafReadings.{leaf-read, leaf-refused, leaf-document, leaf-strict, none-unread}
-use Rattle.facet_json_facet.proofs.leaves.take_slowly.Goals as goal
+use Rattle.facet_json_facet.proofs.leaves.take_out_of_line.Goals as goal
 
 pub returns-in_err-next_of_value-clause-unread : goal.returns-in_err-next_of_value-clause-unread
 returns-in_err-next_of_value-clause-unread g c =

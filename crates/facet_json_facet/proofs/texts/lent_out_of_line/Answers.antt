@@ -6,7 +6,7 @@ use Rattle.facet_json_core.proofs.Meaning.Leaves.BorrowedLaws.{borrowed-read, bo
 use Rattle.facet_json_core.proofs.Meaning.Leaves.LeafReadings.{none-unread}
 use Rattle.facet_json_core.proofs.Refusing.{either-about, event-tells}
 use Rattle.facet_json_core.proofs.Meaning.OneValue.KindsPassed.{lent-passed}
-use Rattle.facet_json_facet.proofs.texts.lent_slowly.Goals as goal
+use Rattle.facet_json_facet.proofs.texts.lent_out_of_line.Goals as goal
 
 pub returns-in_err-next_of_value-clause-unread : goal.returns-in_err-next_of_value-clause-unread
 returns-in_err-next_of_value-clause-unread c =

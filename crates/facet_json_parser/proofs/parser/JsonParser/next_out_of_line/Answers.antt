@@ -7,7 +7,7 @@ use Rattle.facet_json_parser.specs.Lookahead.{spot_of}
 use Rattle.facet_json_parser.specs.Views.{lookahead_of}
 use Rattle.facet_json_parser.proofs.AnswersAreMoves.{next-repeats, next-answers, next-refused}
 use Rattle.facet_json_parser.proofs.ParserWithin.{ready-within, next-refusal_within}
-use Rattle.facet_json_parser.proofs.parser.JsonParser.next_by_tokens.Goals as goal
+use Rattle.facet_json_parser.proofs.parser.JsonParser.next_out_of_line.Goals as goal
 
 pub returns-in_err-unrefused : goal.returns-in_err-unrefused
 returns-in_err-unrefused c =

@@ -1,7 +1,7 @@
 -- The bytes are those of the token.
 use Rattle.std.proofs.Common.{◌+◌, slice_range}
 use Rattle.facet_format.specs.Event.{decimal, borrowed}
-use Rattle.facet_json_reader.proofs.event.decimal_event_by_call.Goals as goal
+use Rattle.facet_json_reader.proofs.event.decimal_event_out_of_line.Goals as goal
 
 pub returns-clause-leaves : goal.returns-clause-leaves
 returns-clause-leaves c =
