@@ -14,8 +14,8 @@ abbrev pub marked : List ℕ → Span → ℕ
 marked source span = max 1 (count_by is_char_start (before_first is_feed (take span.len (drop span.offset source))))
 
 -- such as `line 1, column 4`, and then the line, and then `   ^`
-abbrev pub place_text : List ℕ → Span → List ℕ
-place_text source span =
+abbrev pub excerpt_text : List ℕ → Span → List ℕ
+excerpt_text source span =
     codes "line " ++ (decimal (line_at source span.offset) ++ (codes ", column " ++ (decimal (column_at source span.offset)
     ++ (codes "\n" ++ ((begun_line source span.offset ++ rest_of_line source span.offset) ++ (codes "\n"
     ++ (flat_map blank (begun_line source span.offset) ++ replicate (marked source span) 94)))))))
@@ -23,4 +23,4 @@ place_text source span =
 -- the message, and then the place, where it is known
 abbrev pub report_text : Option (List ℕ) → List ℕ → Option Span → Option (List ℕ)
 report_text message source None = message
-report_text message source (Some span) = message ++? Some (codes " at ") ++? Some (place_text source span)
+report_text message source (Some span) = message ++? Some (codes " at ") ++? Some (excerpt_text source span)

@@ -28,7 +28,7 @@ pub use facet_format::{
     Span,
 };
 pub use facet_json_core::{
-    Answer, Call, JsonError, JsonErrorKind, Place, Position, RawJson, Report, Result,
+    Answer, Call, Excerpt, JsonError, JsonErrorKind, Position, RawJson, Report, Result,
     TranscodeError, drive, pass_end, position_at, transcode,
 };
 pub use facet_json_facet::{Facet, ReadResult};

@@ -17,7 +17,7 @@ mod transcode_error;
 mod value;
 
 pub use error::{JsonError, Result};
-pub use facet_format::{FormatParser, FormatSerializer, Place, Position, position_at};
+pub use facet_format::{Excerpt, FormatParser, FormatSerializer, Position, position_at};
 pub use facet_json_parser::JsonParser;
 pub use facet_json_reader::{MaterializedToken, TokenKind};
 pub use facet_json_serializer::{

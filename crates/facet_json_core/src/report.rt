@@ -7,7 +7,7 @@ ghost use Rattle.facet_json_core.specs.ErrorViews.{error_kind_of};
 ghost use Rattle.facet_format.specs.Report.{report_text};
 
 use crate::error::JsonError;
-use facet_format::Place;
+use facet_format::Excerpt;
 use std::fmt;
 
 /// An error with the source that its span is of. Displayed, it is the error's message, and then the place: its line and column,
@@ -35,11 +35,11 @@ impl fmt::Display for Report<'_> {
         match error.span {
             None => write!(f, "{error}"),
             Some(span) => {
-                let place = Place {
+                let excerpt = Excerpt {
                     source: self.source,
                     span,
                 };
-                write!(f, "{error} at {place}")
+                write!(f, "{error} at {excerpt}")
             }
         }
     }

@@ -9,7 +9,7 @@ ghost use Rattle.facet_json_serde.specs.Within.{LiesWithin};
 
 use crate::fault::{Detail, ReadFault, ReadFaultKind, Refusal, Sort, WriteFault};
 use facet_format::message::write_message;
-use facet_format::{DeserializeErrorKind, ParseError, Place, Span};
+use facet_format::{DeserializeErrorKind, Excerpt, ParseError, Span};
 use std::fmt;
 
 /// What is wrong. Displayed, it is a message of one line for a person.
@@ -213,11 +213,11 @@ impl fmt::Display for Report<'_> {
         match self.error.span {
             None => write!(f, "{}", self.error.kind),
             Some(span) => {
-                let place = Place {
+                let excerpt = Excerpt {
                     source: self.source,
                     span,
                 };
-                write!(f, "{} at {place}", self.error.kind)
+                write!(f, "{} at {excerpt}", self.error.kind)
             }
         }
     }

@@ -4,7 +4,7 @@ ghost use Rattle.std.specs.Prelude.{◌≡◌, ◌++◌, Some, flat_map, replica
 ghost use Rattle.std.specs.Fmt.{WritesOnOk};
 ghost use Rattle.facet_format.specs.Views.{span_of};
 ghost use Rattle.facet_format.specs.Line.{begun_line, rest_of_line};
-ghost use Rattle.facet_format.specs.Report.{blank, marked, place_text};
+ghost use Rattle.facet_format.specs.Report.{blank, marked, excerpt_text};
 
 use crate::line::{
     Position, begins_character, characters, line_len, line_start, position_at, split,
@@ -22,15 +22,15 @@ use std::fmt;
 ///         ^^^
 /// ```
 #[derive(Debug, Clone, Copy)]
-pub struct Place<'a> {
+pub struct Excerpt<'a> {
     /// The source.
     pub source: &'a str,
     /// The bytes that are meant.
     pub span: Span,
 }
 
-impl fmt::Display for Place<'_> {
-    ghost output = { λ place. Some (place_text place.source.now (span_of place.span)) };
+impl fmt::Display for Excerpt<'_> {
+    ghost output = { λ excerpt. Some (excerpt_text excerpt.source.now (span_of excerpt.span)) };
 
     fn fmt<W: fmt::Write>(&self, f: &mut fmt::Formatter<W>) -> fmt::Result {
         let source = self.source.as_bytes();

@@ -1,7 +1,7 @@
 -- So many carets are written.
 use Rattle.std.proofs.Common.{replicate}
 use Rattle.std.specs.Fmt.{HasWritten, IsPlainFormatter}
-use Rattle.facet_format.proofs.place.write_carets.Given as goal
+use Rattle.facet_format.proofs.excerpt.write_carets.Given as goal
 
 abbrev pub invariant-loop-i : goal.invariant-loop-i
 invariant-loop-i g l = IsPlainFormatter l.initial.f → HasWritten g.W.Write.write_str_gives l.initial.f (replicate l._i 94) l.f

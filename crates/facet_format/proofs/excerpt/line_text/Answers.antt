@@ -1,6 +1,6 @@
 use Rattle.std.proofs.Common.{ap, ◌∙◌, take, drop}
 use Rattle.facet_format.proofs.Lines.{whole_line, line_starts}
-use Rattle.facet_format.proofs.place.line_text.Goals as goal
+use Rattle.facet_format.proofs.excerpt.line_text.Goals as goal
 
 pub range-requires-clause-start_boundary : goal.range-requires-clause-start_boundary
 range-requires-clause-start_boundary c = λ _. line_starts c.args.source.now _ _ c.args.offset c.line_start-start.result

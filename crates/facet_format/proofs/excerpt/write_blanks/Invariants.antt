@@ -2,7 +2,7 @@
 use Rattle.std.proofs.Common.{take, flat_map}
 use Rattle.std.specs.Fmt.{HasWritten, IsPlainFormatter}
 use Rattle.facet_format.specs.Report.{blank}
-use Rattle.facet_format.proofs.place.write_blanks.Given as goal
+use Rattle.facet_format.proofs.excerpt.write_blanks.Given as goal
 
 abbrev pub invariant-loop-byte : goal.invariant-loop-byte
 invariant-loop-byte g l =
