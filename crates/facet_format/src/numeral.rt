@@ -168,9 +168,10 @@ fn minus_end(buffer: &[u8], at: usize) -> usize
 
 /// A bit for each of sixteen bytes that is no digit.
 #[inline(always)]
-fn no_digits(window: u8x16) -> u64
+pub fn no_digits(window: u8x16) -> u64
     ensures { result ≡ mask_l (map is_no_digit window) }
 {
+    // A byte below `0` wraps around, past 9.
     (window - u8x16::splat(b'0'))
         .simd_ge(u8x16::splat(10))
         .to_bitmask()

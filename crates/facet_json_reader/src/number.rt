@@ -1,7 +1,7 @@
 //! Numbers that are read without an allocation, from their bytes: eight digits by one word, whole numbers, and all others by their parts.
 
 ghost use Rattle.std.specs.Prelude.{◌≡◌, ◌+◌, ◌≤◌, true, false, Some, length, drop, slice_get, slice_range, IfSome, OnSome, ℕ, ◌<◌, ◌^◌};
-ghost use Rattle.std.specs.Prelude.{take, ◌≢◌, ◌==◌, ◌||◌, pos, neg_ℤ, map};
+ghost use Rattle.std.specs.Prelude.{take, ◌≢◌, ◌==◌, ◌||◌, pos, neg_ℤ};
 ghost use Rattle.facet_format.specs.Number.{AreDigits, float};
 ghost use Rattle.facet_format.specs.NumberValue.{digits_value, number as spec_number, decimal as spec_decimal};
 ghost use Rattle.facet_format.specs.Event.{decimal, borrowed};
@@ -20,12 +20,10 @@ ghost use Rattle.facet_format.specs.Span.{span_at};
 ghost use Rattle.facet_json_document.specs.StrictTokens.{Allows};
 ghost use Rattle.facet_json_reader.specs.PlaceViews.{language_of};
 ghost use Rattle.facet_json_reader.specs.Inner.Digits.{word};
-ghost use Rattle.std.specs.Simd.Lanes.{mask_l};
 ghost use Rattle.facet_format.specs.Bytes.{minus, dot, is_exponent_mark};
-ghost use Rattle.facet_format.specs.Inner.Window.{is_no_digit};
 
 use crate::language::Language;
-use facet_format::numeral::{NumberHint, Parts, parts_at};
+use facet_format::numeral::{NumberHint, Parts, no_digits, parts_at};
 use facet_format::{Decimal, ScalarValue};
 use facet_json_token::{ParsedNumber, has_rfc_parts, measured_decimal, measured_number};
 use std::simd::prelude::*;
@@ -361,17 +359,6 @@ fn begins_part(byte: u8) -> bool
     ensures { result ≡ ((byte == dot) || is_exponent_mark byte) }
 {
     byte == b'.' || byte == b'e' || byte == b'E'
-}
-
-/// A bit for each of sixteen bytes that is no digit.
-#[inline(always)]
-fn no_digits(window: u8x16) -> u64
-    ensures { result ≡ mask_l (map is_no_digit window) }
-{
-    // A byte below `0` wraps around, past 9.
-    (window - u8x16::splat(b'0'))
-        .simd_ge(u8x16::splat(10))
-        .to_bitmask()
 }
 
 /// The number after a minus, where it fits 64 bits.
