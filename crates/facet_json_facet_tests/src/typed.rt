@@ -48,6 +48,18 @@ pub fn expect_values<'de, T: Facet<'de> + PartialEq>(
     }
 }
 
+/// Whether a value was read that is written as this text.
+pub fn is_read_as<'de, T: Facet<'de>>(
+    alloc: Global,
+    answer: Result<T, DeserializeError<'_>>,
+    text: &str,
+) -> bool {
+    match answer {
+        Ok(value) => is_written(to_vec(alloc, &value), text) == Some(true),
+        Err(_) => false,
+    }
+}
+
 /// Whether this text was written, if memory sufficed.
 pub fn is_written(written: Result<Vec<u8>, JsonSerializeError>, text: &str) -> Option<bool> {
     match written {
