@@ -2,8 +2,9 @@
 //! of their requests for memory, which is refused, and they have to pass in every such run. Each row is tried twice, its set-up too: as
 //! one request is refused in a run, memory runs out in one of the two at most, and the other gives the whole answer.
 
-use crate::document_pointers::is_of;
+use crate::document_pointers::{is_of, tree_at};
 use crate::document_texts::is_written as writes_document;
+use crate::expecting::expect_that;
 use crate::finding::number_at;
 use crate::lent;
 use crate::readers::By;
@@ -278,19 +279,19 @@ fn searches(alloc: Global, row: &Row<'_>, by_pointer: bool) -> Option<bool> {
     } else {
         number_at_ab(alloc, &mut parser)
     };
-    if leaves(&answer, &mut parser) {
-        is_answer(alloc, &answer, row)
-    } else {
-        Some(false)
-    }
+    let goes_on = leaves(&answer, &mut parser);
+    let is_answer = is_answer(alloc, answer, row);
+    if goes_on { is_answer } else { Some(false) }
 }
 
 /// Fails where it does not, tried twice.
 fn expect_found(rt: &impl Abort, alloc: Global, rows: &[Row<'_>], by_pointer: bool) {
     for row in rows {
-        let first = searches(alloc, row, by_pointer);
-        let holds = but_once(first, searches(alloc, row, by_pointer));
-        assert!(rt; holds, "{}", row.input);
+        let holds = but_once(
+            searches(alloc, row, by_pointer),
+            searches(alloc, row, by_pointer),
+        );
+        expect_that(rt, holds, row.input);
     }
 }
 
@@ -402,14 +403,8 @@ fn is_in_nodes(alloc: Global) -> Option<bool> {
 /// Whether the tree of a document's value is taken of its nodes, if memory suffices: texts, a number, and containers within others.
 fn is_taken(alloc: Global) -> Option<bool> {
     let text = r#"[{"\u0061":18446744073709551616,"b":[1.5,[]]},"c"]"#;
-    let taken = tree_in_nodes(alloc, text)?;
+    let taken = tree_at(alloc, text, "")?;
     is_of(alloc, &taken, text)
-}
-
-/// The tree that is taken of a document's nodes, if memory suffices.
-fn tree_in_nodes(alloc: Global, text: &str) -> Option<Tree> {
-    let document = Document::parse(alloc, text.as_bytes()).ok()?;
-    document.root().to_tree(alloc).ok()
 }
 
 /// Whether a document's value is written, if memory suffices.
@@ -423,23 +418,14 @@ fn is_written_again(alloc: Global) -> Option<bool> {
 #[test]
 fn a_growth_is_refused_in_a_document(rt: HostRuntime) {
     let alloc = rt.alloc();
-    let made = is_made(alloc);
-    assert!(rt;
-        but_once(made, is_made(alloc)),
-        "a tree that is written down"
-    );
-    let laid_out = lays_out(alloc);
-    assert!(rt; but_once(laid_out, lays_out(alloc)), "a layout");
-    let in_nodes = is_in_nodes(alloc);
-    assert!(rt; but_once(in_nodes, is_in_nodes(alloc)), "a document");
-    let taken = is_taken(alloc);
-    assert!(rt;
-        but_once(taken, is_taken(alloc)),
-        "a tree that is taken of a document"
-    );
-    let written = is_written_again(alloc);
-    assert!(rt;
-        but_once(written, is_written_again(alloc)),
-        "a value that is written"
-    );
+    let made = but_once(is_made(alloc), is_made(alloc));
+    expect_that(&rt, made, "a tree that is written down");
+    let laid_out = but_once(lays_out(alloc), lays_out(alloc));
+    expect_that(&rt, laid_out, "a layout");
+    let in_nodes = but_once(is_in_nodes(alloc), is_in_nodes(alloc));
+    expect_that(&rt, in_nodes, "a document");
+    let taken = but_once(is_taken(alloc), is_taken(alloc));
+    expect_that(&rt, taken, "a tree that is taken of a document");
+    let written = but_once(is_written_again(alloc), is_written_again(alloc));
+    expect_that(&rt, written, "a value that is written");
 }

@@ -107,5 +107,9 @@ fn depths_are_kept(rt: HostRuntime) {
         expect_that(&rt, is_kept(alloc, row.0.as_bytes(), row), row.0);
     }
     let brackets = BRACKETS.0.repeat(alloc, 100_000).expect(&rt, "memory");
-    expect_that(&rt, is_kept(alloc, brackets.as_bytes(), &BRACKETS), "brackets");
+    expect_that(
+        &rt,
+        is_kept(alloc, brackets.as_bytes(), &BRACKETS),
+        "brackets",
+    );
 }

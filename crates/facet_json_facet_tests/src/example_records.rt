@@ -23,10 +23,17 @@ static PERSONS: [(&str, &str); 2] = [
 fn persons_are_read_and_written(rt: HostRuntime) {
     let alloc = rt.alloc();
     for &(input, text) in &PERSONS {
-        expect_that(&rt, is_read_as(alloc, person_in(alloc, input.as_bytes()), text), input);
+        expect_that(
+            &rt,
+            is_read_as(alloc, person_in(alloc, input.as_bytes()), text),
+            input,
+        );
     }
     expect::<Person>(&rt, alloc, By::Each, &[(ALICE, Told::Value(ALICE), 0, 0)]);
-    let no_age = refusal(DeserializeErrorKind::MissingField { field: "age" }, Span::new(11, 1));
+    let no_age = refusal(
+        DeserializeErrorKind::MissingField { field: "age" },
+        Span::new(11, 1),
+    );
     assert!(rt; person_in(alloc, b"{\"name\":\"A\"}").err() == Some(no_age));
 }
 

@@ -45,8 +45,14 @@ static FOUND: [(&str, &[(&str, Option<u64>)]); 12] = [
     ("{\"a\":1,\"b\":2,\"c\":3}", &[("b", Some(2))]),
     ("{\"a\":1,\"b\":2,\"c\":3}", &[("c", Some(3))]),
     ("{\"\\u0061\":1}", &[("a", Some(1))]),
-    ("{\"\\u0062\":1,\"\\u0061b\":2,\"ab\":3}", &[("ab", Some(2))]),
-    ("{\"a\":{\"b\":1},\"c\":[{\"b\":2}],\"b\":3}", &[("b", Some(3))]),
+    (
+        "{\"\\u0062\":1,\"\\u0061b\":2,\"ab\":3}",
+        &[("ab", Some(2))],
+    ),
+    (
+        "{\"a\":{\"b\":1},\"c\":[{\"b\":2}],\"b\":3}",
+        &[("b", Some(3))],
+    ),
     ("{\"a\":1,\"a\":2}", &[("a", Some(1))]),
     ("{\"ab\":1,\"\":2,\"a\":3}", &[("a", Some(3))]),
     ("{\"a\":\"b\",\"\":2}", &[("", Some(2))]),
@@ -103,6 +109,11 @@ fn is_lacking(alloc: Global, input: &str, name: &str, is_cut: bool) -> bool {
 #[test]
 fn a_key_that_does_not_come_is_not_found(rt: HostRuntime) {
     for &(input, name, is_cut) in &LACKING {
-        expect_of(&rt, is_lacking(rt.alloc(), input, name, is_cut), name, input);
+        expect_of(
+            &rt,
+            is_lacking(rt.alloc(), input, name, is_cut),
+            name,
+            input,
+        );
     }
 }

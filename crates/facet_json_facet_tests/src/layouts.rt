@@ -198,7 +198,10 @@ fn stays_with_each(alloc: Global, first: Gap) -> bool {
 fn what_is_laid_out_stays(rt: HostRuntime) {
     for place in 0..TOKENS.len() {
         for gap in &GAPS {
-            assert!(rt; stays_with_each(rt.alloc(), (place, gap)), "behind token {place}");
+            assert!(rt;
+                stays_with_each(rt.alloc(), (place, gap)),
+                "behind token {place}"
+            );
         }
     }
 }

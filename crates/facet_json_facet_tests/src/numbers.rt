@@ -125,33 +125,42 @@ fn expect_outside<'de, T: Facet<'de>>(
     }
 }
 
+/// Both of a type.
+fn expect_bounds<'de, T: Facet<'de>>(
+    rt: &impl Abort,
+    alloc: Global,
+    name: &'de str,
+    inside: &'de str,
+    outside: &'de str,
+) {
+    expect_inside::<T>(rt, alloc, inside);
+    expect_outside::<T>(rt, alloc, name, outside);
+}
+
 /// The least and the greatest number of types, and the numbers beside them.
 #[test]
 fn numbers_have_bounds(rt: HostRuntime) {
     let alloc = rt.alloc();
-    expect_inside::<u8>(&rt, alloc, "0 255");
-    expect_outside::<u8>(&rt, alloc, "u8", "-1 256 300");
-    expect_inside::<u16>(&rt, alloc, "0 65535");
-    expect_outside::<u16>(&rt, alloc, "u16", "-1 65536");
-    expect_inside::<u32>(&rt, alloc, "0 4294967295");
-    expect_outside::<u32>(&rt, alloc, "u32", "-1 4294967296");
-    expect_inside::<u64>(&rt, alloc, "0 18446744073709551615");
-    expect_outside::<u64>(&rt, alloc, "u64", "-1");
-    expect_inside::<usize>(&rt, alloc, "0 18446744073709551615");
-    expect_outside::<usize>(&rt, alloc, "usize", "-1");
-    expect_inside::<u128>(&rt, alloc, "0 18446744073709551615 18446744073709551616");
-    expect_outside::<u128>(&rt, alloc, "u128", "-1");
-    expect_inside::<i8>(&rt, alloc, "-128 127");
-    expect_outside::<i8>(&rt, alloc, "i8", "-129 128");
-    expect_inside::<i16>(&rt, alloc, "-32768 32767");
-    expect_outside::<i16>(&rt, alloc, "i16", "-32769 32768");
-    expect_inside::<i32>(&rt, alloc, "-2147483648 2147483647");
-    expect_outside::<i32>(&rt, alloc, "i32", "-2147483649 2147483648");
-    expect_inside::<i64>(&rt, alloc, "-9223372036854775808 9223372036854775807");
-    expect_outside::<i64>(&rt, alloc, "i64", "9223372036854775808");
-    expect_inside::<isize>(&rt, alloc, "-9223372036854775808 9223372036854775807");
-    expect_outside::<isize>(&rt, alloc, "isize", "9223372036854775808");
-    expect_inside::<i128>(&rt, alloc, "-9223372036854775808 9223372036854775807");
+    expect_bounds::<u8>(&rt, alloc, "u8", "0 255", "-1 256 300");
+    expect_bounds::<u16>(&rt, alloc, "u16", "0 65535", "-1 65536");
+    expect_bounds::<u32>(&rt, alloc, "u32", "0 4294967295", "-1 4294967296");
+    expect_bounds::<u64>(&rt, alloc, "u64", "0 18446744073709551615", "-1");
+    expect_bounds::<usize>(&rt, alloc, "usize", "0 18446744073709551615", "-1");
+    let wide = "0 18446744073709551615 18446744073709551616";
+    expect_bounds::<u128>(&rt, alloc, "u128", wide, "-1");
+    expect_bounds::<i8>(&rt, alloc, "i8", "-128 127", "-129 128");
+    expect_bounds::<i16>(&rt, alloc, "i16", "-32768 32767", "-32769 32768");
+    expect_bounds::<i32>(
+        &rt,
+        alloc,
+        "i32",
+        "-2147483648 2147483647",
+        "-2147483649 2147483648",
+    );
+    let signed = "-9223372036854775808 9223372036854775807";
+    expect_bounds::<i64>(&rt, alloc, "i64", signed, "9223372036854775808");
+    expect_bounds::<isize>(&rt, alloc, "isize", signed, "9223372036854775808");
+    expect_inside::<i128>(&rt, alloc, signed);
     expect::<u8>(&rt, alloc, By::Each, &NO_BYTE);
     expect::<i128>(&rt, alloc, By::Each, &NOT_SIGNED);
     expect::<u128>(&rt, alloc, By::Each, &NOT_UNSIGNED);

@@ -1,8 +1,9 @@
 //! What is no value of a type: each type refuses every other event by its own name and the event's, and the parser goes on after it.
 
-use crate::typed::{is_passed, is_told, refusal};
+use crate::expecting::expect_of;
+use crate::typed::{is_passed, is_read_as, is_told, refusal};
 use facet_format::{DeserializeError, DeserializeErrorKind, FormatParser, Span};
-use facet_json_facet::Facet;
+use facet_json_facet::{Facet, value_in};
 use facet_json_parser::JsonParser;
 use facet_json_tree::Tree;
 use std::alloc::Global;
@@ -71,15 +72,9 @@ fn refuses<'de, T: Facet<'de>>(
     borrows: bool,
     error: DeserializeError<'de>,
 ) -> bool {
-    if !passes(parser, before) {
-        return false;
-    }
-    let answer = if borrows {
-        T::read(alloc, parser)
-    } else {
-        T::read_owned(alloc, parser)
-    };
-    is_told(answer, error) && is_passed(parser.next_event())
+    passes(parser, before)
+        && is_told(value_in::<T>(alloc, parser, borrows), error)
+        && is_passed(parser.next_event())
 }
 
 /// Whether it is refused so of a new parser.
@@ -106,7 +101,7 @@ fn expect_called<'de, T: Facet<'de>>(
             let error = refusal(kind_of(name, *got), Span::new(*offset, *len));
             let owned = is_refused::<T>(alloc, *input, before, false, error);
             let lent = is_refused::<T>(alloc, *input, before, true, error);
-            assert!(rt; owned && lent, "{name} of {input}");
+            expect_of(rt, owned && lent, name, input);
         }
     }
 }
@@ -139,26 +134,28 @@ fn types_have_names(rt: HostRuntime) {
     expect_called::<Tree>(&rt, alloc, "value", &values);
 }
 
-/// Fails where the second item of the list is not this one, after the first one was refused.
-fn expect_second<'de, T: Facet<'de> + PartialEq>(
-    rt: &impl Abort,
+/// Whether the second item of the list that comes is written as this, after the first one was refused.
+fn has_second<'de, T: Facet<'de>>(
     alloc: Global,
-    input: &'de str,
-    wanted: T,
-) {
+    parser: &mut JsonParser<'de>,
+    written: &str,
+) -> bool {
+    is_passed(parser.next_event())
+        && T::read(alloc, parser).is_err()
+        && is_read_as(alloc, T::read(alloc, parser), written)
+}
+
+/// The same of the list that is the input.
+fn is_second<'de, T: Facet<'de>>(alloc: Global, input: &'de str, written: &str) -> bool {
     let mut parser = JsonParser::new(alloc, input.as_bytes());
-    assert!(rt; is_passed(parser.next_event()), "of {input}");
-    assert!(rt; T::read(alloc, &mut parser).is_err(), "of {input}");
-    assert!(rt;
-        T::read(alloc, &mut parser).ok() == Some(wanted),
-        "of {input}"
-    );
+    has_second::<T>(alloc, &mut parser, written)
 }
 
 #[test]
 fn a_refused_value_is_passed(rt: HostRuntime) {
     let alloc = rt.alloc();
-    expect_second(&rt, alloc, "[1,true]", true);
-    expect_second(&rt, alloc, "[300,7]", 7_u8);
-    expect_second(&rt, alloc, "[\"a\\u0062\",\"c\"]", "c");
+    let holds = is_second::<bool>(alloc, "[1,true]", "true")
+        && is_second::<u8>(alloc, "[300,7]", "7")
+        && is_second::<&'static str>(alloc, "[\"a\\u0062\",\"c\"]", "\"c\"");
+    assert!(rt; holds);
 }
