@@ -93,9 +93,12 @@ static NUMBERS: [Row<'static>; 3] = [
     Row { by: By::Each, input: "-x", answer: Err(NO_NUMBER), wants: &[], grows: false },
 ];
 
-/// Numbers of 128 bits.
+/// Numbers of 128 bits: those of every type, and such as no other has.
 #[rattlefmt::skip]
-static UNSIGNED: [Row<'static>; 3] = [
+static UNSIGNED: [Row<'static>; 6] = [
+    Row { by: By::Each, input: "7", answer: Ok("7"), wants: &[], grows: false },
+    Row { by: By::Lenient, input: "007 [", answer: Ok("7"), wants: &[], grows: false },
+    Row { by: By::Each, input: "-x", answer: Err(NO_NUMBER), wants: &[], grows: false },
     Row { by: By::Each, input: "18446744073709551616", answer: Ok("18446744073709551616"), wants: &[(0, 0)], grows: false },
     Row { by: By::Each, input: "\"\\u0035\"", answer: Ok("5"), wants: &[(0, 0)], grows: false },
     Row { by: By::Each, input: "\"5\"", answer: Ok("5"), wants: &[], grows: false },
@@ -103,7 +106,10 @@ static UNSIGNED: [Row<'static>; 3] = [
 
 /// The same with a sign.
 #[rattlefmt::skip]
-static SIGNED: [Row<'static>; 2] = [
+static SIGNED: [Row<'static>; 5] = [
+    Row { by: By::Each, input: "7", answer: Ok("7"), wants: &[], grows: false },
+    Row { by: By::Lenient, input: "007 [", answer: Ok("7"), wants: &[], grows: false },
+    Row { by: By::Each, input: "-x", answer: Err(NO_NUMBER), wants: &[], grows: false },
     Row { by: By::Each, input: "-9223372036854775809", answer: Ok("-9223372036854775809"), wants: &[(0, 0)], grows: false },
     Row { by: By::Each, input: "\"-9223372036854775809\"", answer: Ok("-9223372036854775809"), wants: &[], grows: false },
 ];
@@ -198,36 +204,49 @@ static LENT_PERSONS: [Row<'static>; 2] = [
 ];
 
 #[test]
-fn a_growth_is_refused_in_a_number(rt: HostRuntime) {
+fn a_growth_is_refused_in_a_number_without_a_sign(rt: HostRuntime) {
     let alloc = rt.alloc();
-    expect_rows::<bool>(&rt, alloc, &TRUTHS);
     expect_rows::<u8>(&rt, alloc, &NUMBERS);
     expect_rows::<u16>(&rt, alloc, &NUMBERS);
     expect_rows::<u32>(&rt, alloc, &NUMBERS);
     expect_rows::<u64>(&rt, alloc, &NUMBERS);
     expect_rows::<usize>(&rt, alloc, &NUMBERS);
+}
+
+#[test]
+fn a_growth_is_refused_in_a_number_with_a_sign(rt: HostRuntime) {
+    let alloc = rt.alloc();
     expect_rows::<i8>(&rt, alloc, &NUMBERS);
     expect_rows::<i16>(&rt, alloc, &NUMBERS);
     expect_rows::<i32>(&rt, alloc, &NUMBERS);
     expect_rows::<i64>(&rt, alloc, &NUMBERS);
     expect_rows::<isize>(&rt, alloc, &NUMBERS);
-    expect_rows::<u128>(&rt, alloc, &NUMBERS);
-    expect_rows::<u128>(&rt, alloc, &UNSIGNED);
-    expect_rows::<i128>(&rt, alloc, &NUMBERS);
-    expect_rows::<i128>(&rt, alloc, &SIGNED);
 }
 
 #[test]
-fn a_growth_is_refused_in_another_value(rt: HostRuntime) {
+fn a_growth_is_refused_in_another_scalar(rt: HostRuntime) {
     let alloc = rt.alloc();
+    expect_rows::<bool>(&rt, alloc, &TRUTHS);
+    expect_rows::<u128>(&rt, alloc, &UNSIGNED);
+    expect_rows::<i128>(&rt, alloc, &SIGNED);
     expect_rows::<String>(&rt, alloc, &TEXTS);
     expect_rows::<&'static str>(&rt, alloc, &LENT);
-    expect_rows::<RawJson<'static>>(&rt, alloc, &RAWS);
     expect_rows::<Option<String>>(&rt, alloc, &OPTIONAL);
+}
+
+#[test]
+fn a_growth_is_refused_in_a_container(rt: HostRuntime) {
+    let alloc = rt.alloc();
+    expect_rows::<RawJson<'static>>(&rt, alloc, &RAWS);
     expect_rows::<Vec<Vec<Option<u8>>>>(&rt, alloc, &LISTS);
     expect_rows::<Vec<String>>(&rt, alloc, &LISTS_OF_TEXTS);
     expect_rows::<BTreeMap<String, String>>(&rt, alloc, &MAPS);
     expect_rows::<Tree>(&rt, alloc, &TREES);
+}
+
+#[test]
+fn a_growth_is_refused_in_a_struct(rt: HostRuntime) {
+    let alloc = rt.alloc();
     expect_rows::<Account>(&rt, alloc, &ACCOUNTS);
     expect_rows::<records::Person>(&rt, alloc, &PERSONS);
     expect_rows::<lent::Person<'static>>(&rt, alloc, &LENT_PERSONS);
