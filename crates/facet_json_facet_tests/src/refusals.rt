@@ -101,11 +101,12 @@ pub fn expect_called<'de, T: Facet<'de>>(
     rt: &impl Abort,
     alloc: Global,
     name: &'de str,
-    taken: &[&str],
+    taken: &[&'de str],
 ) {
     for row in &EVENTS {
-        let holds = taken.contains(&row.0) || is_refused_by::<T>(alloc, name, row);
-        expect_of(rt, holds, name, row.0);
+        let input: &'de str = row.0;
+        let holds = taken.contains(&input) || is_refused_by::<T>(alloc, name, row);
+        expect_of(rt, holds, name, input);
     }
 }
 
