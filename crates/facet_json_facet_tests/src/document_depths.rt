@@ -97,7 +97,7 @@ fn is_kept(alloc: Global, input: &[u8], row: &Row) -> bool {
         && is_wanted(Document::parse_within_strict(alloc, input, row.1), row.4)
 }
 
-/// Brackets, as many as are told in the test.
+/// A bracket, which the test repeats, and how so many of them are refused.
 static BRACKETS: Row = ("[", 100, TooDeep(100), TooDeep(100), TooDeep(100));
 
 #[test]
