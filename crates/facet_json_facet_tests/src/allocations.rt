@@ -2,8 +2,9 @@
 //! of their requests for memory, which is refused, and they have to pass in every such run. Each row is tried twice, its set-up too: as
 //! one request is refused in a run, memory runs out in one of the two at most, and the other gives the whole answer.
 
-use crate::document_pointers::is_of;
+use crate::document_pointers::{is_of, tree_at};
 use crate::document_texts::is_written as writes_document;
+use crate::expecting::expect_that;
 use crate::finding::number_at;
 use crate::lent;
 use crate::readers::By;
@@ -92,9 +93,12 @@ static NUMBERS: [Row<'static>; 3] = [
     Row { by: By::Each, input: "-x", answer: Err(NO_NUMBER), wants: &[], grows: false },
 ];
 
-/// Numbers of 128 bits.
+/// Numbers of 128 bits: those of every type, and such as no other has.
 #[rattlefmt::skip]
-static UNSIGNED: [Row<'static>; 3] = [
+static UNSIGNED: [Row<'static>; 6] = [
+    Row { by: By::Each, input: "7", answer: Ok("7"), wants: &[], grows: false },
+    Row { by: By::Lenient, input: "007 [", answer: Ok("7"), wants: &[], grows: false },
+    Row { by: By::Each, input: "-x", answer: Err(NO_NUMBER), wants: &[], grows: false },
     Row { by: By::Each, input: "18446744073709551616", answer: Ok("18446744073709551616"), wants: &[(0, 0)], grows: false },
     Row { by: By::Each, input: "\"\\u0035\"", answer: Ok("5"), wants: &[(0, 0)], grows: false },
     Row { by: By::Each, input: "\"5\"", answer: Ok("5"), wants: &[], grows: false },
@@ -102,7 +106,10 @@ static UNSIGNED: [Row<'static>; 3] = [
 
 /// The same with a sign.
 #[rattlefmt::skip]
-static SIGNED: [Row<'static>; 2] = [
+static SIGNED: [Row<'static>; 5] = [
+    Row { by: By::Each, input: "7", answer: Ok("7"), wants: &[], grows: false },
+    Row { by: By::Lenient, input: "007 [", answer: Ok("7"), wants: &[], grows: false },
+    Row { by: By::Each, input: "-x", answer: Err(NO_NUMBER), wants: &[], grows: false },
     Row { by: By::Each, input: "-9223372036854775809", answer: Ok("-9223372036854775809"), wants: &[(0, 0)], grows: false },
     Row { by: By::Each, input: "\"-9223372036854775809\"", answer: Ok("-9223372036854775809"), wants: &[], grows: false },
 ];
@@ -197,36 +204,49 @@ static LENT_PERSONS: [Row<'static>; 2] = [
 ];
 
 #[test]
-fn a_growth_is_refused_in_a_number(rt: HostRuntime) {
+fn a_growth_is_refused_in_a_number_without_a_sign(rt: HostRuntime) {
     let alloc = rt.alloc();
-    expect_rows::<bool>(&rt, alloc, &TRUTHS);
     expect_rows::<u8>(&rt, alloc, &NUMBERS);
     expect_rows::<u16>(&rt, alloc, &NUMBERS);
     expect_rows::<u32>(&rt, alloc, &NUMBERS);
     expect_rows::<u64>(&rt, alloc, &NUMBERS);
     expect_rows::<usize>(&rt, alloc, &NUMBERS);
+}
+
+#[test]
+fn a_growth_is_refused_in_a_number_with_a_sign(rt: HostRuntime) {
+    let alloc = rt.alloc();
     expect_rows::<i8>(&rt, alloc, &NUMBERS);
     expect_rows::<i16>(&rt, alloc, &NUMBERS);
     expect_rows::<i32>(&rt, alloc, &NUMBERS);
     expect_rows::<i64>(&rt, alloc, &NUMBERS);
     expect_rows::<isize>(&rt, alloc, &NUMBERS);
-    expect_rows::<u128>(&rt, alloc, &NUMBERS);
-    expect_rows::<u128>(&rt, alloc, &UNSIGNED);
-    expect_rows::<i128>(&rt, alloc, &NUMBERS);
-    expect_rows::<i128>(&rt, alloc, &SIGNED);
 }
 
 #[test]
-fn a_growth_is_refused_in_another_value(rt: HostRuntime) {
+fn a_growth_is_refused_in_another_scalar(rt: HostRuntime) {
     let alloc = rt.alloc();
+    expect_rows::<bool>(&rt, alloc, &TRUTHS);
+    expect_rows::<u128>(&rt, alloc, &UNSIGNED);
+    expect_rows::<i128>(&rt, alloc, &SIGNED);
     expect_rows::<String>(&rt, alloc, &TEXTS);
     expect_rows::<&'static str>(&rt, alloc, &LENT);
-    expect_rows::<RawJson<'static>>(&rt, alloc, &RAWS);
     expect_rows::<Option<String>>(&rt, alloc, &OPTIONAL);
+}
+
+#[test]
+fn a_growth_is_refused_in_a_container(rt: HostRuntime) {
+    let alloc = rt.alloc();
+    expect_rows::<RawJson<'static>>(&rt, alloc, &RAWS);
     expect_rows::<Vec<Vec<Option<u8>>>>(&rt, alloc, &LISTS);
     expect_rows::<Vec<String>>(&rt, alloc, &LISTS_OF_TEXTS);
     expect_rows::<BTreeMap<String, String>>(&rt, alloc, &MAPS);
     expect_rows::<Tree>(&rt, alloc, &TREES);
+}
+
+#[test]
+fn a_growth_is_refused_in_a_struct(rt: HostRuntime) {
+    let alloc = rt.alloc();
     expect_rows::<Account>(&rt, alloc, &ACCOUNTS);
     expect_rows::<records::Person>(&rt, alloc, &PERSONS);
     expect_rows::<lent::Person<'static>>(&rt, alloc, &LENT_PERSONS);
@@ -278,19 +298,19 @@ fn searches(alloc: Global, row: &Row<'_>, by_pointer: bool) -> Option<bool> {
     } else {
         number_at_ab(alloc, &mut parser)
     };
-    if leaves(&answer, &mut parser) {
-        is_answer(alloc, &answer, row)
-    } else {
-        Some(false)
-    }
+    let goes_on = leaves(&answer, &mut parser);
+    let is_answer = is_answer(alloc, answer, row);
+    if goes_on { is_answer } else { Some(false) }
 }
 
 /// Fails where it does not, tried twice.
 fn expect_found(rt: &impl Abort, alloc: Global, rows: &[Row<'_>], by_pointer: bool) {
     for row in rows {
-        let first = searches(alloc, row, by_pointer);
-        let holds = but_once(first, searches(alloc, row, by_pointer));
-        assert!(rt; holds, "{}", row.input);
+        let holds = but_once(
+            searches(alloc, row, by_pointer),
+            searches(alloc, row, by_pointer),
+        );
+        expect_that(rt, holds, row.input);
     }
 }
 
@@ -402,14 +422,8 @@ fn is_in_nodes(alloc: Global) -> Option<bool> {
 /// Whether the tree of a document's value is taken of its nodes, if memory suffices: texts, a number, and containers within others.
 fn is_taken(alloc: Global) -> Option<bool> {
     let text = r#"[{"\u0061":18446744073709551616,"b":[1.5,[]]},"c"]"#;
-    let taken = tree_in_nodes(alloc, text)?;
+    let taken = tree_at(alloc, text, "")?;
     is_of(alloc, &taken, text)
-}
-
-/// The tree that is taken of a document's nodes, if memory suffices.
-fn tree_in_nodes(alloc: Global, text: &str) -> Option<Tree> {
-    let document = Document::parse(alloc, text.as_bytes()).ok()?;
-    document.root().to_tree(alloc).ok()
 }
 
 /// Whether a document's value is written, if memory suffices.
@@ -423,23 +437,14 @@ fn is_written_again(alloc: Global) -> Option<bool> {
 #[test]
 fn a_growth_is_refused_in_a_document(rt: HostRuntime) {
     let alloc = rt.alloc();
-    let made = is_made(alloc);
-    assert!(rt;
-        but_once(made, is_made(alloc)),
-        "a tree that is written down"
-    );
-    let laid_out = lays_out(alloc);
-    assert!(rt; but_once(laid_out, lays_out(alloc)), "a layout");
-    let in_nodes = is_in_nodes(alloc);
-    assert!(rt; but_once(in_nodes, is_in_nodes(alloc)), "a document");
-    let taken = is_taken(alloc);
-    assert!(rt;
-        but_once(taken, is_taken(alloc)),
-        "a tree that is taken of a document"
-    );
-    let written = is_written_again(alloc);
-    assert!(rt;
-        but_once(written, is_written_again(alloc)),
-        "a value that is written"
-    );
+    let made = but_once(is_made(alloc), is_made(alloc));
+    expect_that(&rt, made, "a tree that is written down");
+    let laid_out = but_once(lays_out(alloc), lays_out(alloc));
+    expect_that(&rt, laid_out, "a layout");
+    let in_nodes = but_once(is_in_nodes(alloc), is_in_nodes(alloc));
+    expect_that(&rt, in_nodes, "a document");
+    let taken = but_once(is_taken(alloc), is_taken(alloc));
+    expect_that(&rt, taken, "a tree that is taken of a document");
+    let written = but_once(is_written_again(alloc), is_written_again(alloc));
+    expect_that(&rt, written, "a value that is written");
 }

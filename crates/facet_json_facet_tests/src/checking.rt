@@ -1,9 +1,9 @@
 //! Inputs of which nothing is kept, or a document: whether they have one, in each language, or what is refused.
 
+use crate::expecting::expect_that;
 use facet_format::DeserializeError;
 use facet_json::{Document, check, check_jsonc, check_strict};
 use std::alloc::Global;
-use std::process::Abort;
 
 /// Where a refusal stands: an offset and a length.
 type At = Option<(usize, usize)>;
@@ -34,33 +34,30 @@ fn refused<T: Drop>(answer: Result<T, DeserializeError<'_>>) -> At {
     Some((span.offset, span.len))
 }
 
-/// Fails where one of the functions that keep nothing, or one of those that keep a document, refuses something else than the row says.
-fn expect_refused(rt: &impl Abort, alloc: Global, row: &Row) {
-    let &(input, lenient, with_comments, strict) = row;
-    let bytes = input.as_bytes();
-    assert!(rt; refused(check(alloc, bytes)) == lenient, "of {input}");
-    assert!(rt;
-        refused(check_jsonc(alloc, bytes)) == with_comments,
-        "of {input}"
-    );
-    assert!(rt; refused(check_strict(alloc, bytes)) == strict, "of {input}");
-    assert!(rt;
-        refused(Document::parse(alloc, bytes)) == lenient,
-        "of {input}"
-    );
-    assert!(rt;
-        refused(Document::parse_jsonc(alloc, bytes)) == with_comments,
-        "of {input}"
-    );
-    assert!(rt;
-        refused(Document::parse_strict(alloc, bytes)) == strict,
-        "of {input}"
-    );
+/// Whether the functions that keep nothing refuse what the row says.
+fn are_checked(alloc: Global, row: &Row) -> bool {
+    let input = row.0.as_bytes();
+    refused(check(alloc, input)) == row.1
+        && refused(check_jsonc(alloc, input)) == row.2
+        && refused(check_strict(alloc, input)) == row.3
+}
+
+/// Whether those that keep a document do.
+fn are_parsed(alloc: Global, row: &Row) -> bool {
+    let input = row.0.as_bytes();
+    refused(Document::parse(alloc, input)) == row.1
+        && refused(Document::parse_jsonc(alloc, input)) == row.2
+        && refused(Document::parse_strict(alloc, input)) == row.3
 }
 
 #[test]
 fn what_is_no_document_is_refused(rt: HostRuntime) {
+    let alloc = rt.alloc();
     for row in &INPUTS {
-        expect_refused(&rt, rt.alloc(), row);
+        expect_that(
+            &rt,
+            are_checked(alloc, row) && are_parsed(alloc, row),
+            row.0,
+        );
     }
 }

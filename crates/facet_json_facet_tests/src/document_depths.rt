@@ -1,9 +1,9 @@
 //! Documents of nodes that are read within a depth: how deep they may nest, and how they are refused beyond it.
 
+use crate::expecting::expect_that;
 use facet_format::{DeserializeError, DeserializeErrorKind, Span};
 use facet_json::Document;
 use std::alloc::Global;
-use std::process::Abort;
 
 /// How a text is refused.
 #[derive(Clone, Copy)]
@@ -19,13 +19,19 @@ enum Wanted {
 use Wanted::{Other, Read, TooDeep};
 
 /// Whether the answer is the wanted one.
-fn is_wanted(read: &Result<Document<'_>, DeserializeError<'_>>, wanted: Wanted) -> bool {
-    match (read, wanted) {
-        (Ok(document), Read(len)) => document.root().len() == len,
-        (Err(error), TooDeep(offset)) => is_bracket(error, offset),
-        (Err(error), Other(offset)) => error.kind.code() != 5
-            && error.span == Some(Span::new(offset, 1)),
-        _ => false,
+fn is_wanted(read: Result<Document<'_>, DeserializeError<'_>>, wanted: Wanted) -> bool {
+    match read {
+        Ok(document) => matches!(wanted, Read(len) if document.root().len() == len),
+        Err(error) => is_refusal(&error, wanted),
+    }
+}
+
+/// Whether the error is the wanted one.
+fn is_refusal(error: &DeserializeError<'_>, wanted: Wanted) -> bool {
+    match wanted {
+        Read(_) => false,
+        TooDeep(offset) => is_bracket(error, offset),
+        Other(offset) => error.kind.code() != 5 && error.span == Some(Span::new(offset, 1)),
     }
 }
 
@@ -84,36 +90,26 @@ static ROWS: [Row; 17] = [
     ("[[],/* */[[]]]", 2, Other(4), TooDeep(10), Other(4)),
 ];
 
-/// Fails where an input that may nest so deep is not answered so by one of the three functions.
-fn expect_within(
-    rt: &impl Abort,
-    alloc: Global,
-    text: &str,
-    depth: usize,
-    wanted: (Wanted, Wanted, Wanted),
-) {
-    let input = text.as_bytes();
-    let plain = Document::parse_within(alloc, input, depth);
-    assert!(rt; is_wanted(&plain, wanted.0), "of {text} within {depth}");
-    let jsonc = Document::parse_within_jsonc(alloc, input, depth);
-    assert!(rt;
-        is_wanted(&jsonc, wanted.1),
-        "of {text} within {depth} with comments"
-    );
-    let strict = Document::parse_within_strict(alloc, input, depth);
-    assert!(rt;
-        is_wanted(&strict, wanted.2),
-        "of {text} within {depth} strictly"
-    );
+/// Whether the three functions answer so of an input that may nest as deep as the row says.
+fn is_kept(alloc: Global, input: &[u8], row: &Row) -> bool {
+    is_wanted(Document::parse_within(alloc, input, row.1), row.2)
+        && is_wanted(Document::parse_within_jsonc(alloc, input, row.1), row.3)
+        && is_wanted(Document::parse_within_strict(alloc, input, row.1), row.4)
 }
+
+/// A bracket, which the test repeats, and how so many of them are refused.
+static BRACKETS: Row = ("[", 100, TooDeep(100), TooDeep(100), TooDeep(100));
 
 #[test]
 fn depths_are_kept(rt: HostRuntime) {
     let alloc = rt.alloc();
-    for &(text, depth, plain, jsonc, strict) in &ROWS {
-        expect_within(&rt, alloc, text, depth, (plain, jsonc, strict));
+    for row in &ROWS {
+        expect_that(&rt, is_kept(alloc, row.0.as_bytes(), row), row.0);
     }
-    let brackets = "[".repeat(alloc, 100_000).expect(&rt, "memory");
-    let refused = (TooDeep(100), TooDeep(100), TooDeep(100));
-    expect_within(&rt, alloc, brackets.as_str(), 100, refused);
+    let brackets = BRACKETS.0.repeat(alloc, 100_000).expect(&rt, "memory");
+    expect_that(
+        &rt,
+        is_kept(alloc, brackets.as_bytes(), &BRACKETS),
+        "brackets",
+    );
 }

@@ -1,8 +1,9 @@
 //! The bytes of a document's values in the input. The wanted bytes are read off these texts, by RFC 8259, sections 2 to 7.
 
+use crate::expecting::expect_of;
+use facet_format::DeserializeError;
 use facet_json::{Document, Value};
 use std::alloc::Global;
-use std::process::Abort;
 
 /// How a text is read.
 enum Language {
@@ -186,14 +187,17 @@ static ROWS: [Row; 27] = [
 ];
 
 /// What is read.
-fn read<'i>(alloc: Global, language: &Language, input: &'i [u8]) -> Option<Document<'i>> {
-    let read = match language {
+fn read<'t, 'i>(
+    alloc: Global,
+    language: &Language,
+    input: &'i [u8],
+) -> Result<Document<'i>, DeserializeError<'t>> {
+    match language {
         Language::Plain => Document::parse(alloc, input),
         Language::Within(depth) => Document::parse_within(alloc, input, *depth),
         Language::Commented => Document::parse_jsonc(alloc, input),
         Language::Strict => Document::parse_strict(alloc, input),
-    };
-    read.ok()
+    }
 }
 
 /// Whether a value has the bytes of the row, and so has what is read of these bytes alone.
@@ -205,22 +209,25 @@ fn has_raw(alloc: Global, value: &Value<'_, '_>, raw: &[u8]) -> bool {
         }
 }
 
-/// Fails where the row is not told.
-fn expect_row(rt: &impl Abort, alloc: Global, row: &Row) {
-    let document = read(alloc, &row.language, row.text.as_bytes()).expect(rt, row.text);
-    let found = document.root().pointer(row.pointer).expect(rt, row.pointer);
-    let value = found.expect(rt, row.pointer);
-    assert!(rt;
-        has_raw(alloc, &value, row.raw.as_bytes()),
-        "{} of {}",
-        row.pointer,
-        row.text
-    );
+/// Whether the row's pointer names a value of its bytes.
+fn holds(alloc: Global, document: &Document<'_>, row: &Row) -> bool {
+    match document.root().pointer(row.pointer) {
+        Ok(Some(value)) => has_raw(alloc, &value, row.raw.as_bytes()),
+        _ => false,
+    }
+}
+
+/// The same of what is read.
+fn is_told(alloc: Global, row: &Row) -> bool {
+    match read(alloc, &row.language, row.text.as_bytes()) {
+        Ok(document) => holds(alloc, &document, row),
+        Err(_) => false,
+    }
 }
 
 #[test]
 fn values_have_their_bytes(rt: HostRuntime) {
     for row in &ROWS {
-        expect_row(&rt, rt.alloc(), row);
+        expect_of(&rt, is_told(rt.alloc(), row), row.pointer, row.text);
     }
 }

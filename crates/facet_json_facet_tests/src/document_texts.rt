@@ -1,10 +1,10 @@
 //! Values of a document, written by a serializer that the caller holds. The wanted texts are those of RFC 8259 for these values.
 
+use crate::expecting::expect_that;
 use crate::typed;
 use facet_format::FormatSerializer;
-use facet_json::{Document, JsonSerializeError, JsonSerializer, SerializeOptions};
+use facet_json::{Document, JsonSerializeError, JsonSerializer, SerializeOptions, Value};
 use std::alloc::Global;
-use std::process::Abort;
 
 /// A text, and the list of its root twice, as it is written.
 type Row = (&'static str, &'static str);
@@ -59,24 +59,31 @@ pub fn is_written(alloc: Global, text: &str, wanted: &str) -> Option<bool> {
     }
 }
 
-/// Fails where a member, laid out by these options, is not this text.
-fn expect_laid_out(rt: &impl Abort, alloc: Global, options: SerializeOptions<'_>, wanted: &str) {
-    let document = Document::parse(alloc, b"{\"a\":[{\"b\":[1,{}]}]}").expect(rt, "a document");
-    let member = document.root().get("a").expect(rt, "a member");
-    let mut serializer = JsonSerializer::with_options(alloc, options);
-    assert!(rt; member.write(&mut serializer).is_ok(), "{wanted}");
-    assert!(rt;
-        typed::is_written(serializer.finish(), wanted) == Some(true),
-        "{wanted}"
-    );
+/// A value, an element on each line.
+fn written_pretty(alloc: Global, value: &Value<'_, '_>) -> Result<Vec<u8>, JsonSerializeError> {
+    let mut serializer = JsonSerializer::with_options(alloc, SerializeOptions::new().pretty());
+    value.write(&mut serializer)?;
+    serializer.finish()
+}
+
+/// Whether the member `a` of an object is laid out so.
+fn is_laid_out(alloc: Global, text: &str, wanted: &str) -> bool {
+    match Document::parse(alloc, text.as_bytes()) {
+        Ok(document) => match document.root().get("a") {
+            Some(member) => typed::is_written(written_pretty(alloc, &member), wanted) == Some(true),
+            None => false,
+        },
+        Err(_) => false,
+    }
 }
 
 #[test]
 fn values_are_written(rt: HostRuntime) {
     let alloc = rt.alloc();
     for &(text, wanted) in &ROWS {
-        assert!(rt; is_written(alloc, text, wanted) == Some(true), "{text}");
+        expect_that(&rt, is_written(alloc, text, wanted) == Some(true), text);
     }
+    let text = "{\"a\":[{\"b\":[1,{}]}]}";
     let wanted = "[\n  {\n    \"b\": [\n      1,\n      {}\n    ]\n  }\n]";
-    expect_laid_out(&rt, alloc, SerializeOptions::new().pretty(), wanted);
+    expect_that(&rt, is_laid_out(alloc, text, wanted), text);
 }

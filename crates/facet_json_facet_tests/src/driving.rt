@@ -1,9 +1,9 @@
 //! Calls of a new parser: with ample memory each is answered, of a document and of what is none.
 
+use crate::expecting::expect_that;
 use facet_json_core::{Answer, Call};
 use facet_json_examples::driving::{answers_of_both, answers_to};
 use std::alloc::Global;
-use std::process::Abort;
 
 /// How many events are answered before the end, which is 0, or a refusal, which is its code.
 fn told(answers: &[Answer<'_>]) -> Option<(usize, u8)> {
@@ -28,19 +28,31 @@ static ROWS: [(&str, usize, u8); 6] = [
     ("{\"a\"", 1, 3),
 ];
 
-/// Fails where six calls for the next event, of a parser and of both of a text, don't tell so many events, and then this end.
-fn expect_told(rt: &impl Abort, alloc: Global, input: &str, wanted: Option<(usize, u8)>) {
-    let calls = [Call::Next; 6];
-    let answers = answers_to(alloc, input.as_bytes(), &calls).expect(rt, "memory");
-    assert!(rt; told(answers.as_slice()) == wanted, "of {input}");
-    let (these, those) = answers_of_both(alloc, input, &calls).expect(rt, "memory");
-    assert!(rt; told(these.as_slice()) == wanted, "of {input}");
-    assert!(rt; told(those.as_slice()) == wanted, "of {input}");
+/// What is asked of a parser.
+static CALLS: [Call; 6] = [Call::Next; 6];
+
+/// Whether a parser tells so many events, and then this end.
+fn is_told(alloc: Global, input: &str, wanted: Option<(usize, u8)>) -> bool {
+    match answers_to(alloc, input.as_bytes(), &CALLS) {
+        Ok(answers) => told(answers.as_slice()) == wanted,
+        Err(_) => false,
+    }
+}
+
+/// Whether both parsers of a text do.
+fn is_told_twice(alloc: Global, input: &str, wanted: Option<(usize, u8)>) -> bool {
+    match answers_of_both(alloc, input, &CALLS) {
+        Ok((these, those)) => told(these.as_slice()) == wanted && told(those.as_slice()) == wanted,
+        Err(_) => false,
+    }
 }
 
 #[test]
 fn events_come_and_then_the_end_or_a_refusal(rt: HostRuntime) {
+    let alloc = rt.alloc();
     for &(input, events, end) in &ROWS {
-        expect_told(&rt, rt.alloc(), input, Some((events, end)));
+        let wanted = Some((events, end));
+        let holds = is_told(alloc, input, wanted) && is_told_twice(alloc, input, wanted);
+        expect_that(&rt, holds, input);
     }
 }

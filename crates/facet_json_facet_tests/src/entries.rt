@@ -1,17 +1,16 @@
 //! The entry functions, each once with ample memory, and texts that the input lends.
 
+use crate::expecting::expect_that;
 use crate::readers::By;
 use crate::rows::{Case, Told, expect};
-use crate::typed;
-use crate::typed::{expect_value, expect_values, is_text};
+use crate::typed::{expect_values, is_text, is_written};
 use facet_json::{
-    from_str, from_str_borrowed, to_string, to_string_pretty, to_string_with_options, to_vec,
-    to_vec_pretty, to_vec_with_options,
+    from_str, to_string, to_string_pretty, to_string_with_options, to_vec, to_vec_pretty,
+    to_vec_with_options,
 };
-use facet_json_serializer::{JsonSerializeError, SerializeOptions};
+use facet_json_serializer::SerializeOptions;
 use std::alloc::Global;
 use std::collections::BTreeMap;
-use std::process::Abort;
 
 /// Bytes with more behind them.
 static BYTES: [(&str, u8, &str); 1] = [(" 7 8", 7, "7")];
@@ -66,27 +65,54 @@ static NEVER_LENT: [Case<'static>; 2] = [
 /// Texts which are not lent where nothing is.
 static NOT_LENT: [Case<'static>; 1] = [("\"ab\"", UNLENT, 0, 4)];
 
-/// A list that was read of an input which is gone.
-fn read_and_let_go(rt: &impl Abort, alloc: Global) -> Vec<String> {
-    let input = String::from_str(alloc, "[\"a\",\"b\"]").expect(rt, "memory");
-    from_str(alloc, input.as_str()).expect(rt, "a list")
+/// A list of which an item is lent.
+static LENT_ITEMS: [Case<'static>; 1] = [("[\"a\"]", Told::Value("[\"a\"]"), 0, 0)];
+
+/// A map of which a value is lent, and its key is not.
+static LENT_VALUES: [Case<'static>; 1] = [(
+    "{\"\\u0063\":\"d\"}",
+    Told::Value("{\"c\":\"d\"}"),
+    0,
+    0,
+)];
+
+/// A list of texts.
+const TEXTS: &str = "[\"a\",\"b\"]";
+
+/// What is read of an input which is gone then, if memory suffices.
+fn read_and_let_go(alloc: Global) -> Option<Vec<String>> {
+    let input = String::from_str(alloc, TEXTS).ok()?;
+    from_str(alloc, input.as_str()).ok()
+}
+
+/// Whether it is written as the input.
+fn outlives_its_input(alloc: Global) -> bool {
+    match read_and_let_go(alloc) {
+        Some(list) => is_written(to_vec(alloc, &list), TEXTS) == Some(true),
+        None => false,
+    }
 }
 
 #[test]
 fn contents_are_lent_or_outlive_their_input(rt: HostRuntime) {
     let alloc = rt.alloc();
-    let lent = vec![in alloc; "a"].expect(&rt, "memory");
-    expect_value(&rt, alloc, By::Borrowed, "[\"a\"]", &lent, "[\"a\"]");
-    let text = "{\"\\u0063\":\"d\"}";
-    let map: BTreeMap<String, &str> = from_str_borrowed(alloc, text).expect(&rt, text);
-    assert!(rt; map.get("c") == Some(&"d"));
-    let list = read_and_let_go(&rt, alloc);
-    assert!(rt; list.len() == 2 && list[0].as_str() == "a" && list[1].as_str() == "b");
+    expect::<Vec<&'static str>>(&rt, alloc, By::Borrowed, &LENT_ITEMS);
+    expect::<BTreeMap<String, &'static str>>(&rt, alloc, By::Borrowed, &LENT_VALUES);
+    expect_that(&rt, outlives_its_input(alloc), TEXTS);
 }
 
-/// Fails where these bytes were not written.
-fn expect_bytes(rt: &impl Abort, written: Result<Vec<u8>, JsonSerializeError>, text: &str) {
-    assert!(rt; typed::is_written(written, text) == Some(true), "{text}");
+/// Whether each function that writes bytes lays the list of the number seven out as it should.
+fn is_written_as_bytes(alloc: Global, list: &Vec<u8>, options: &SerializeOptions<'_>) -> bool {
+    is_written(to_vec(alloc, list), "[7]") == Some(true)
+        && is_written(to_vec_pretty(alloc, list), "[\n  7\n]") == Some(true)
+        && is_written(to_vec_with_options(alloc, list, options), "[\n\t7\n]") == Some(true)
+}
+
+/// Whether each that writes a text does.
+fn is_written_as_text(alloc: Global, list: &Vec<u8>, options: &SerializeOptions<'_>) -> bool {
+    is_text(to_string(alloc, list), "[7]")
+        && is_text(to_string_pretty(alloc, list), "[\n  7\n]")
+        && is_text(to_string_with_options(alloc, list, options), "[\n\t7\n]")
 }
 
 #[test]
@@ -94,14 +120,7 @@ fn values_are_written(rt: HostRuntime) {
     let alloc = rt.alloc();
     let list = vec![in alloc; 7_u8].expect(&rt, "memory");
     let options = SerializeOptions::new().indent("\t");
-    expect_bytes(&rt, to_vec(alloc, &list), "[7]");
-    expect_bytes(&rt, to_vec_pretty(alloc, &list), "[\n  7\n]");
-    expect_bytes(
-        &rt,
-        to_vec_with_options(alloc, &list, &options),
-        "[\n\t7\n]",
-    );
-    assert!(rt; is_text(to_string(alloc, &list), "[7]"));
-    assert!(rt; is_text(to_string_pretty(alloc, &list), "[\n  7\n]"));
-    assert!(rt; is_text(to_string_with_options(alloc, &list, &options), "[\n\t7\n]"));
+    let holds = is_written_as_bytes(alloc, &list, &options)
+        && is_written_as_text(alloc, &list, &options);
+    assert!(rt; holds);
 }

@@ -1,10 +1,10 @@
 //! To which field of a struct a member goes: by its key and the table of names (RFC 8259, section 4).
 
+use crate::expecting::expect_that;
 use facet_format::DeserializeError;
 use facet_json::{Done, Maybe, Need, read_fields};
 use facet_json_parser::JsonParser;
 use std::alloc::Global;
-use std::process::Abort;
 
 /// Three fields, of which the second one's name begins as the first one's, and may be missing.
 type Three = Need<u8, Maybe<u8, Need<u8, Done>>>;
@@ -78,32 +78,37 @@ static REPEATED: [(&str, u8); 4] = [
     ("{\"\\u0061\":1,\"aa\":9,\"a\":4}", 4),
 ];
 
-/// Fails where the object is not read as these fields.
-fn expect_three(rt: &impl Abort, alloc: Global, input: &str, wanted: (u8, Option<u8>, u8)) {
-    let Need(a, Maybe(ab, Need(long, Done))) = read_three(alloc, input).expect(rt, input);
-    assert!(rt; (a, ab, long) == wanted, "of {input}");
+/// Whether the object is read as these fields.
+fn are_three(alloc: Global, input: &str, wanted: (u8, Option<u8>, u8)) -> bool {
+    match read_three(alloc, input) {
+        Ok(Need(a, Maybe(ab, Need(long, Done)))) => (a, ab, long) == wanted,
+        Err(_) => false,
+    }
 }
 
-/// Fails where the object is not read as two fields of one name, of which the first has this number and the second none.
-fn expect_first_of_two(rt: &impl Abort, alloc: Global, input: &str, number: u8) {
+/// Two fields of one name, of which the second may be missing.
+type Two = Need<u8, Maybe<u8, Done>>;
+
+fn read_two<'t>(alloc: Global, input: &str) -> Result<Two, DeserializeError<'t>> {
     let mut parser = JsonParser::new(alloc, input.as_bytes());
-    let answer: Result<Need<u8, Maybe<u8, Done>>, DeserializeError<'_>> = read_fields(
-        alloc,
-        &mut parser,
-        false,
-        &["a", "a"],
-    );
-    let Need(first, Maybe(second, Done)) = answer.expect(rt, input);
-    assert!(rt; first == number && second.is_none(), "of {input}");
+    read_fields(alloc, &mut parser, false, &["a", "a"])
+}
+
+/// Whether the first of them has this number, and the second none.
+fn is_first_of_two(alloc: Global, input: &str, number: u8) -> bool {
+    match read_two(alloc, input) {
+        Ok(Need(first, Maybe(second, Done))) => first == number && second.is_none(),
+        Err(_) => false,
+    }
 }
 
 #[test]
 fn a_member_goes_to_the_field_of_its_name(rt: HostRuntime) {
     let alloc = rt.alloc();
     for &(input, wanted) in &THREE {
-        expect_three(&rt, alloc, input, wanted);
+        expect_that(&rt, are_three(alloc, input, wanted), input);
     }
     for &(input, number) in &REPEATED {
-        expect_first_of_two(&rt, alloc, input, number);
+        expect_that(&rt, is_first_of_two(alloc, input, number), input);
     }
 }

@@ -1,5 +1,6 @@
 //! Numbers with a fraction or an exponent as floats, and back (IEEE 754; RFC 8259, section 6).
 
+use crate::expecting::expect_that;
 use facet_json::Decimal;
 use facet_json::float::{from_f64, to_f64};
 use std::alloc::Global;
@@ -9,11 +10,12 @@ fn float_of(text: &str) -> Option<f64> {
     to_f64(&Decimal::new(text)?)
 }
 
-/// Whether this is the text of the float's number, which is read back as this float.
-fn is_written(alloc: Global, float: f64, text: &str) -> bool {
+/// Whether this is the text of the float's number, which is read back as this float; or it has none.
+fn is_written(alloc: Global, float: f64, text: Option<&str>) -> bool {
     match from_f64(alloc, float) {
-        Ok(Some(number)) => number.as_str() == text && to_f64(&number) == Some(float),
-        _ => false,
+        Ok(Some(number)) => text == Some(number.as_str()) && to_f64(&number) == Some(float),
+        Ok(None) => text.is_none(),
+        Err(_) => false,
     }
 }
 
@@ -32,25 +34,26 @@ static NEAREST: [(&str, f64); 11] = [
     ("-1e400", f64::NEG_INFINITY),
 ];
 
-/// Floats, and the texts of their numbers.
-static SHORTEST: [(f64, &str); 6] = [
-    (0.5, "0.5"),
-    (-2.0, "-2.0"),
-    (0.1, "0.1"),
-    (1e300, "1e300"),
-    (5e-324, "5e-324"),
-    (1.7976931348623157e308, "1.7976931348623157e308"),
+/// Floats, and the texts of their numbers, if they have any.
+static SHORTEST: [(f64, Option<&str>); 9] = [
+    (0.5, Some("0.5")),
+    (-2.0, Some("-2.0")),
+    (0.1, Some("0.1")),
+    (1e300, Some("1e300")),
+    (5e-324, Some("5e-324")),
+    (1.7976931348623157e308, Some("1.7976931348623157e308")),
+    (f64::NAN, None),
+    (f64::INFINITY, None),
+    (f64::NEG_INFINITY, None),
 ];
 
 #[test]
 fn floats_and_numbers_are_each_others(rt: HostRuntime) {
     for &(text, float) in &NEAREST {
-        assert!(rt; float_of(text) == Some(float), "{text}");
+        expect_that(&rt, float_of(text) == Some(float), text);
     }
     for &(float, text) in &SHORTEST {
-        assert!(rt; is_written(rt.alloc(), float, text), "{text}");
-    }
-    for float in [f64::NAN, f64::INFINITY, f64::NEG_INFINITY] {
-        assert!(rt; matches!(from_f64(rt.alloc(), float), Ok(None)), "{float}");
+        let holds = is_written(rt.alloc(), float, text);
+        expect_that(&rt, holds, text.unwrap_or("a float that is no number"));
     }
 }

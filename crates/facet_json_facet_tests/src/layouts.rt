@@ -1,5 +1,6 @@
 //! Texts laid out anew: worked rows, what is refused, and that a text laid out stays as it is.
 
+use crate::expecting::expect_that;
 use crate::rows::{Case, Told, answer_of};
 use facet_json::scanner::Mode;
 use facet_json::{FormatOptions, Indent, format_text, format_text_strict};
@@ -67,22 +68,25 @@ static AT_LINE_ENDS: [Row; 9] = [
 /// Fails where a text is not laid out so, or where that does not stay as it is.
 fn expect_laid_out(rt: &impl Abort, alloc: Global, rows: &[Row]) {
     for &(text, wanted) in rows {
-        assert!(rt;
-            is_formatted(alloc, text.as_bytes(), wanted.as_bytes()),
-            "of {text}"
-        );
-        assert!(rt;
-            is_formatted(alloc, wanted.as_bytes(), wanted.as_bytes()),
-            "of {wanted}"
-        );
+        let wanted = wanted.as_bytes();
+        let holds = is_formatted(alloc, text.as_bytes(), wanted);
+        expect_that(rt, holds && is_formatted(alloc, wanted, wanted), text);
     }
 }
 
-/// Fails where the text is not indented so.
-fn expect_indented(rt: &impl Abort, alloc: Global, indent: Indent, wanted: &str) {
-    let options = FormatOptions { indent };
-    let found = format_text(alloc, b"[[1]]", Mode::Plain, options).expect(rt, wanted);
-    assert!(rt; found.as_slice() == wanted.as_bytes(), "{wanted}");
+/// How a list in a list is indented.
+static INDENTED: [(Indent, &str); 3] = [
+    (Indent::Tab, "[\n\t[\n\t\t1\n\t]\n]\n"),
+    (Indent::Spaces(0), "[\n[\n1\n]\n]\n"),
+    (Indent::Spaces(3), "[\n   [\n      1\n   ]\n]\n"),
+];
+
+/// Whether it is indented so.
+fn is_indented(alloc: Global, indent: Indent, wanted: &str) -> bool {
+    match format_text(alloc, b"[[1]]", Mode::Plain, FormatOptions { indent }) {
+        Ok(found) => found.as_slice() == wanted.as_bytes(),
+        Err(_) => false,
+    }
 }
 
 #[test]
@@ -91,9 +95,9 @@ fn texts_are_laid_out(rt: HostRuntime) {
     expect_laid_out(&rt, alloc, &PLAIN);
     expect_laid_out(&rt, alloc, &IN_OWN_LINES);
     expect_laid_out(&rt, alloc, &AT_LINE_ENDS);
-    expect_indented(&rt, alloc, Indent::Tab, "[\n\t[\n\t\t1\n\t]\n]\n");
-    expect_indented(&rt, alloc, Indent::Spaces(0), "[\n[\n1\n]\n]\n");
-    expect_indented(&rt, alloc, Indent::Spaces(3), "[\n   [\n      1\n   ]\n]\n");
+    for &(indent, wanted) in &INDENTED {
+        expect_that(&rt, is_indented(alloc, indent, wanted), wanted);
+    }
 }
 
 /// What is refused where comments may not stand.
@@ -110,17 +114,25 @@ static REFUSED_STRICTLY: [Case<'static>; 2] = [
     ("007", Told::Byte('?'), 0, 3),
 ];
 
+/// Whether the text is refused so, where RFC 8259 alone is read or not.
+fn is_refused(alloc: Global, case: &Case<'_>, is_strict: bool) -> bool {
+    let text = case.0.as_bytes();
+    let options = FormatOptions::new();
+    let answer = if is_strict {
+        format_text_strict(alloc, text, options)
+    } else {
+        format_text(alloc, text, Mode::Plain, options)
+    };
+    answer.err() == answer_of(case).err()
+}
+
 #[test]
 fn what_is_no_document_alone_is_refused(rt: HostRuntime) {
-    let alloc = rt.alloc();
-    let options = FormatOptions::new();
     for case in &REFUSED {
-        let refused = format_text(alloc, case.0.as_bytes(), Mode::Plain, options).err();
-        assert!(rt; refused == answer_of(case).err(), "of {}", case.0);
+        expect_that(&rt, is_refused(rt.alloc(), case, false), case.0);
     }
     for case in &REFUSED_STRICTLY {
-        let refused = format_text_strict(alloc, case.0.as_bytes(), options).err();
-        assert!(rt; refused == answer_of(case).err(), "of {}", case.0);
+        expect_that(&rt, is_refused(rt.alloc(), case, true), case.0);
     }
 }
 
@@ -140,52 +152,60 @@ static GAPS: [&[u8]; 7] = [
     b"\n\n// a\n/**/",
 ];
 
-/// Appends the document's text with one gap behind one of its tokens, and another behind another one.
-fn push_tokens(
-    text: &mut Vec<u8>,
-    first: (usize, &[u8]),
-    second: (usize, &[u8]),
-) -> Result<(), AllocError> {
+/// A gap, and the place of the token behind which it stands.
+type Gap = (usize, &'static [u8]);
+
+/// How many of them there are.
+const COUNT: usize = 56;
+
+/// The gap of this number, where those behind one token come one after another.
+fn gap_of(number: usize) -> Gap {
+    (number / 7, GAPS[number % 7])
+}
+
+/// What the gap adds behind the token at this place.
+fn added(gap: Gap, place: usize) -> &'static [u8] {
+    if gap.0 == place { gap.1 } else { b"" }
+}
+
+/// Appends the document's text with these gaps.
+fn push_tokens(text: &mut Vec<u8>, first: Gap, second: Gap) -> Result<(), AllocError> {
     for (place, token) in TOKENS.iter().enumerate() {
         text.extend_from_slice(token)?;
-        if place == first.0 {
-            text.extend_from_slice(first.1)?;
-        }
-        if place == second.0 {
-            text.extend_from_slice(second.1)?;
-        }
+        text.extend_from_slice(added(first, place))?;
+        text.extend_from_slice(added(second, place))?;
     }
     Ok(())
 }
 
-/// Fails where the document with these gaps, laid out, does not stay as it is.
-fn expect_stays(rt: &impl Abort, alloc: Global, first: (usize, &[u8]), second: (usize, &[u8])) {
-    let mut text = Vec::new(alloc);
-    push_tokens(&mut text, first, second).expect(rt, "memory");
-    let options = FormatOptions::new();
-    let once = format_text(alloc, text.as_slice(), Mode::Jsonc, options).expect(rt, "a document");
-    assert!(rt;
-        is_formatted(alloc, once.as_slice(), once.as_slice()),
-        "behind tokens {} and {}",
-        first.0,
-        second.0
-    );
+/// Whether a text, laid out, stays as it is.
+fn stays(alloc: Global, text: &[u8]) -> bool {
+    match format_text(alloc, text, Mode::Jsonc, FormatOptions::new()) {
+        Ok(once) => is_formatted(alloc, once.as_slice(), once.as_slice()),
+        Err(_) => false,
+    }
 }
 
-/// The same with each second gap.
-fn expect_each_stays(rt: &impl Abort, alloc: Global, first: (usize, &[u8])) {
-    for place in 0..TOKENS.len() {
-        for gap in &GAPS {
-            expect_stays(rt, alloc, first, (place, gap));
+/// Whether the document with these gaps, laid out, stays as it is.
+fn stays_with(alloc: Global, first: Gap, second: Gap) -> bool {
+    let mut text = Vec::new(alloc);
+    push_tokens(&mut text, first, second).is_ok() && stays(alloc, text.as_slice())
+}
+
+/// Whether it does with this gap and each other one.
+fn stays_with_each(alloc: Global, first: Gap) -> bool {
+    for number in 0..COUNT {
+        if !stays_with(alloc, first, gap_of(number)) {
+            return false;
         }
     }
+    true
 }
 
 #[test]
 fn what_is_laid_out_stays(rt: HostRuntime) {
-    for place in 0..TOKENS.len() {
-        for gap in &GAPS {
-            expect_each_stays(&rt, rt.alloc(), (place, gap));
-        }
+    for number in 0..COUNT {
+        let holds = stays_with_each(rt.alloc(), gap_of(number));
+        assert!(rt; holds, "with the gap {number}");
     }
 }

@@ -1,56 +1,57 @@
 //! Values of each length around the widths that are read at once, and what only begins as one of them.
 
+use crate::expecting::expect_that;
 use crate::readers::By;
 use crate::rows::{Case, Told, expect};
 use facet_format::DeserializeError;
 use facet_json::{from_str, from_str_borrowed};
 use std::alloc::Global;
-use std::process::Abort;
 
-/// Whether these two texts were read.
-fn are_texts(read: &Result<Vec<String>, DeserializeError<'_>>, first: &str, second: &str) -> bool {
+/// The longest text.
+const TEXT: &str = "aaaaaaaaaaaaaaaaaaaaaaaaaaaaaaaaaaaaaaaa";
+
+/// Whether this text was read, and it with a line break behind it.
+fn are_texts(read: Result<Vec<String>, DeserializeError<'_>>, text: &str) -> bool {
     match read {
         Ok(texts) => {
-            texts.len() == 2 && texts[0].as_str() == first && texts[1].as_str() == second
+            texts.len() == 2
+                && texts[0].as_str() == text
+                && texts[1].strip_suffix('\n') == Some(text)
         }
         Err(_) => false,
     }
 }
 
-/// Fails where a list of the text, and of it with an escape behind it, isn't read.
-fn expect_list(rt: &impl Abort, alloc: Global, text: &str) {
-    let input = format!(in alloc; "[\"{text}\", \"{text}\\n\"]").expect(rt, "memory");
-    let escaped = format!(in alloc; "{text}\n").expect(rt, "memory");
-    let read = from_str(alloc, input.as_str());
-    assert!(rt; are_texts(&read, text, escaped.as_str()), "of {input}");
+/// Whether a list of the text, and of it with an escape behind it, is read.
+fn is_listed(alloc: Global, text: &str) -> bool {
+    match ["[\"", "\", \"", "\\n\"]"].join(alloc, text) {
+        Ok(input) => are_texts(from_str(alloc, input.as_str()), text),
+        Err(_) => false,
+    }
 }
 
-/// Fails where the text isn't lent.
-fn expect_lent(rt: &impl Abort, alloc: Global, text: &str) {
-    let input = format!(in alloc; "\"{text}\"").expect(rt, "memory");
-    assert!(rt;
-        from_str_borrowed(alloc, input.as_str()) == Ok(text),
-        "of {input}"
-    );
+/// Whether the text is lent.
+fn is_lent(alloc: Global, text: &str) -> bool {
+    match ["\"", "\""].join(alloc, text) {
+        Ok(input) => from_str_borrowed(alloc, input.as_str()) == Ok(text),
+        Err(_) => false,
+    }
 }
 
-/// A number of so many digits.
-fn number_of(digits: usize) -> u64 {
+/// The longest number.
+const DIGITS: &str = "777777777777777777";
+
+/// The number of so many sevens.
+fn number_of(digits: &str) -> u64 {
     let mut number = 0_u64;
-    for _ in 0..digits {
+    for _ in 0..digits.len() {
         number = number.wrapping_mul(10).wrapping_add(7);
     }
     number
 }
 
-/// Fails where the number isn't read at the end of the input.
-fn expect_alone(rt: &impl Abort, alloc: Global, number: u64) {
-    let input = format!(in alloc; "{number}").expect(rt, "memory");
-    assert!(rt; from_str(alloc, input.as_str()) == Ok(number), "of {input}");
-}
-
 /// Whether the number was read twice, with a minus.
-fn are_negative(read: &Result<Vec<i64>, DeserializeError<'_>>, number: u64) -> bool {
+fn are_negative(read: Result<Vec<i64>, DeserializeError<'_>>, number: u64) -> bool {
     match read {
         Ok(read) => {
             read.len() == 2 && read[0].unsigned_abs() == number && read[0] < 0 && read[1] == read[0]
@@ -59,11 +60,17 @@ fn are_negative(read: &Result<Vec<i64>, DeserializeError<'_>>, number: u64) -> b
     }
 }
 
-/// Fails where the number isn't read with a minus, before other bytes.
-fn expect_negative(rt: &impl Abort, alloc: Global, number: u64) {
-    let input = format!(in alloc; "[-{number}, -{number}                 ]").expect(rt, "memory");
-    let read = from_str(alloc, input.as_str());
-    assert!(rt; are_negative(&read, number), "of {input}");
+/// Whether the number is read with a minus, before other bytes.
+fn is_negative(alloc: Global, digits: &str) -> bool {
+    match ["[-", ", -", "                 ]"].join(alloc, digits) {
+        Ok(input) => are_negative(from_str(alloc, input.as_str()), number_of(digits)),
+        Err(_) => false,
+    }
+}
+
+/// Whether it is read at the end of the input, and with a minus.
+fn is_number(alloc: Global, digits: &str) -> bool {
+    from_str(alloc, digits) == Ok(number_of(digits)) && is_negative(alloc, digits)
 }
 
 /// What only begins as a number.
@@ -95,14 +102,12 @@ static NO_TEXTS: [Case<'static>; 1] = [("[\"a                  ]", Told::End("in
 fn values_of_each_length_are_read(rt: HostRuntime) {
     let alloc = rt.alloc();
     for len in 0..=40 {
-        let text = "a".repeat(alloc, len).expect(&rt, "memory");
-        expect_list(&rt, alloc, text.as_str());
-        expect_lent(&rt, alloc, text.as_str());
+        let text = TEXT.get(..len).unwrap_or("");
+        expect_that(&rt, is_listed(alloc, text) && is_lent(alloc, text), text);
     }
-    for digits in 1..=18 {
-        let number = number_of(digits);
-        expect_alone(&rt, alloc, number);
-        expect_negative(&rt, alloc, number);
+    for len in 1..=18 {
+        let digits = DIGITS.get(..len).unwrap_or("");
+        expect_that(&rt, is_number(alloc, digits), digits);
     }
     expect::<Vec<u8>>(&rt, alloc, By::Each, &NO_NUMBERS);
     expect::<Vec<Option<u8>>>(&rt, alloc, By::Each, &NO_NULLS);

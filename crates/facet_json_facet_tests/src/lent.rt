@@ -1,8 +1,9 @@
 //! Structs whose texts the input lends.
 
+use crate::expecting::expect_that;
 use crate::readers::By;
 use crate::rows::{Case, Told, expect};
-use crate::typed::expect_value;
+use crate::typed::{expect_value, is_written};
 use facet_format::DeserializeError;
 use facet_json::{Done, Need, read_fields, write_fields};
 use facet_json_facet::Facet;
@@ -52,57 +53,45 @@ impl<'de> Facet<'de> for Person<'de> {
     ghost laws = { lent_person-laws };
 }
 
-/// A point, as `{"label":"origin","x":0,"y":0}`.
-#[derive(PartialEq, Drop)]
-struct Labelled<'de> {
-    label: &'de str,
-    x: i32,
-    y: i32,
+/// A point's fields, as `{"label":"origin","x":0,"y":0}`.
+static POINT: [&str; 3] = ["label", "x", "y"];
+
+/// Reads a point whose label is lent.
+fn read_point<'t, 'de>(
+    alloc: Global,
+    input: &'de str,
+) -> Result<Need<&'de str, Need<i32, Need<i32, Done>>>, DeserializeError<'t>> {
+    let mut parser = JsonParser::new(alloc, input.as_bytes());
+    read_fields(alloc, &mut parser, true, &POINT)
 }
 
-impl<'de> Facet<'de> for Labelled<'de> {
-    ghost use Rattle.std.specs.Prelude.{ℕ, ℤ, List};
-    ghost use Rattle.facet_json_facet_tests.specs.Lent.{labelled};
-    ghost use Rattle.facet_json_facet_tests.specs.LentLaws.{labelled-laws};
+/// Writes a point.
+fn written_point(
+    alloc: Global,
+    label: &str,
+    x: i32,
+    y: i32,
+) -> Result<Vec<u8>, JsonSerializeError> {
+    let mut serializer = JsonSerializer::new(alloc);
+    write_fields(
+        &mut serializer,
+        &POINT,
+        &Need(&label, Need(&x, Need(&y, Done))),
+    )?;
+    serializer.finish()
+}
 
-    ghost View = { List ℕ × (ℤ × (ℤ × Unit {0})) };
-
-    ghost view = { λ p. (p.label.now, (p.x, (p.y, tt))) };
-
-    ghost shape = { labelled };
-
-    fn read_owned<'t>(
-        alloc: Global,
-        parser: &mut JsonParser<'de>,
-    ) -> Result<Labelled<'de>, DeserializeError<'t>> {
-        let Need(label, Need(x, Need(y, Done))) = read_fields(
-            alloc,
-            parser,
-            false,
-            &["label", "x", "y"],
-        )?;
-        Ok(Labelled { label, x, y })
+/// Whether the input is read as the point of this label at the origin, which is written as the text.
+fn is_origin(alloc: Global, input: &str, label: &str, text: &str) -> bool {
+    match read_point(alloc, input) {
+        Ok(Need(read, Need(x, Need(y, Done)))) => {
+            read == label
+                && x == 0
+                && y == 0
+                && is_written(written_point(alloc, read, x, y), text) == Some(true)
+        }
+        Err(_) => false,
     }
-
-    fn read<'t>(
-        alloc: Global,
-        parser: &mut JsonParser<'de>,
-    ) -> Result<Labelled<'de>, DeserializeError<'t>> {
-        let Need(label, Need(x, Need(y, Done))) = read_fields(
-            alloc,
-            parser,
-            true,
-            &["label", "x", "y"],
-        )?;
-        Ok(Labelled { label, x, y })
-    }
-
-    fn write(&self, serializer: &mut JsonSerializer<'_>) -> Result<(), JsonSerializeError> {
-        let fields = Need(&self.label, Need(&self.x, Need(&self.y, Done)));
-        write_fields(serializer, &["label", "x", "y"], &fields)
-    }
-
-    ghost laws = { labelled-laws };
 }
 
 /// What lends no person.
@@ -124,12 +113,7 @@ fn texts_of_structs_are_lent(rt: HostRuntime) {
     let written = "{\"name\":\"Alice\",\"age\":30}";
     expect_value(&rt, alloc, By::Borrowed, text, &alice, written);
     expect::<Person<'static>>(&rt, alloc, By::Owned, &NO_PERSONS);
-    let origin = Labelled {
-        label: "origin",
-        x: 0,
-        y: 0,
-    };
     let text = "{\"label\": \"origin\", \"x\": 0, \"y\": 0}";
     let written = "{\"label\":\"origin\",\"x\":0,\"y\":0}";
-    expect_value(&rt, alloc, By::Borrowed, text, &origin, written);
+    expect_that(&rt, is_origin(alloc, text, "origin", written), text);
 }

@@ -27,6 +27,8 @@ mod entries;
 #[cfg(test)]
 mod example_records;
 #[cfg(test)]
+mod expecting;
+#[cfg(test)]
 mod field_names;
 #[cfg(test)]
 mod finding;

@@ -1,5 +1,6 @@
 //! JSON lines: which bytes are the lines, which are refused, and that reading goes on after that, however the bytes come.
 
+use crate::expecting::expect_that;
 use crate::typed::is_text;
 use facet_format::Span;
 use facet_json::{Line, LineError, Lines, from_slice_borrowed};
@@ -7,7 +8,6 @@ use facet_json_examples::log_filter::errors_in;
 use std::alloc::Global;
 use std::io;
 use std::io::{BufReader, ErrorKind, Read};
-use std::process::Abort;
 
 /// Gives its bytes a few at a time, and fails at one read, counted from 0.
 #[derive(Drop)]
@@ -138,23 +138,30 @@ fn failures(alloc: Global, row: &Row, way: Way) -> Option<usize> {
     failures_told(&mut Lines::new(alloc, reader, row.1), row.2)
 }
 
-/// Fails where the row's lines don't come through a buffer of this size, with so many bytes a read.
-fn expect_lines(rt: &impl Abort, alloc: Global, row: &Row, buffer: usize, longest: usize) {
-    let way = Way {
-        buffer,
-        longest,
-        fails_at: usize::MAX,
-        kind: ErrorKind::Other,
-    };
-    assert!(rt;
-        failures(alloc, row, way) == Some(0),
-        "{} by {buffer} and {longest}",
-        row.0
-    );
+/// Sizes of a buffer, and how many bytes a read gives at most.
+#[rattlefmt::skip]
+static SIZES: [(usize, usize); 12] = [
+    (1, 1), (1, 3), (1, 64), (2, 1), (2, 3), (2, 64), (5, 1), (5, 3), (5, 64), (64, 1), (64, 3), (64, 64),
+];
+
+/// Whether the row's lines come by each of these sizes.
+fn come(alloc: Global, row: &Row) -> bool {
+    for &(buffer, longest) in &SIZES {
+        let way = Way {
+            buffer,
+            longest,
+            fails_at: usize::MAX,
+            kind: ErrorKind::Other,
+        };
+        if failures(alloc, row, way) != Some(0) {
+            return false;
+        }
+    }
+    true
 }
 
-/// Fails where not so many failures of the row are told, where each read that gives a byte fails in turn.
-fn expect_failures(rt: &impl Abort, alloc: Global, row: &Row, kind: ErrorKind, told: usize) {
+/// Whether so many failures of the row are told, where each read that gives a byte fails in turn.
+fn fail(alloc: Global, row: &Row, kind: ErrorKind, told: usize) -> bool {
     for fails_at in 0..row.0.len() {
         let way = Way {
             buffer: 4,
@@ -162,25 +169,21 @@ fn expect_failures(rt: &impl Abort, alloc: Global, row: &Row, kind: ErrorKind, t
             fails_at,
             kind,
         };
-        assert!(rt;
-            failures(alloc, row, way) == Some(told),
-            "{} at {fails_at}",
-            row.0
-        );
+        if failures(alloc, row, way) != Some(told) {
+            return false;
+        }
     }
+    true
 }
 
 #[test]
 fn lines_come_however_the_bytes_do(rt: HostRuntime) {
     let alloc = rt.alloc();
     for row in &ROWS {
-        for buffer in &[1, 2, 5, 64] {
-            expect_lines(&rt, alloc, row, *buffer, 1);
-            expect_lines(&rt, alloc, row, *buffer, 3);
-            expect_lines(&rt, alloc, row, *buffer, 64);
-        }
-        expect_failures(&rt, alloc, row, ErrorKind::BrokenPipe, 1);
-        expect_failures(&rt, alloc, row, ErrorKind::Interrupted, 0);
+        let holds = come(alloc, row)
+            && fail(alloc, row, ErrorKind::BrokenPipe, 1)
+            && fail(alloc, row, ErrorKind::Interrupted, 0);
+        expect_that(&rt, holds, row.0);
     }
 }
 
@@ -218,14 +221,21 @@ static SUMS: [(&str, u64, Refused); 5] = [
     ("7\n1e\n", 7, Some((2, Some(Span { offset: 0, len: 2 })))),
 ];
 
-/// Fails where the next line is not this text, lent and owned.
-fn expect_next(rt: &impl Abort, alloc: Global, lines: &mut Lines<&[u8]>, text: &str) {
-    let line = lines.next_line().ok().expect(rt, text).expect(rt, text);
-    assert!(rt;
-        from_slice_borrowed::<&str>(alloc, line.text) == Ok(text),
-        "{text}"
-    );
-    assert!(rt; is_text(line.value::<String>(alloc), text), "{text}");
+/// Whether the next line is this text, lent and owned.
+fn is_next(alloc: Global, lines: &mut Lines<&[u8]>, text: &str) -> bool {
+    match lines.next_line() {
+        Ok(Some(line)) => {
+            from_slice_borrowed::<&str>(alloc, line.text) == Ok(text)
+                && is_text(line.value::<String>(alloc), text)
+        }
+        _ => false,
+    }
+}
+
+/// Whether the lines of the input are these two texts.
+fn are_texts(alloc: Global, input: &str, first: &str, second: &str) -> bool {
+    let mut lines = Lines::new(alloc, input.as_bytes(), 9);
+    is_next(alloc, &mut lines, first) && is_next(alloc, &mut lines, second)
 }
 
 /// A log of which two records are of errors. The second line is no record, and the fourth is cut.
@@ -237,12 +247,11 @@ fn values_are_read_of_lines(rt: HostRuntime) {
     let alloc = rt.alloc();
     for &(input, sum, refused) in &SUMS {
         let read = summed(alloc, input.as_bytes()).ok();
-        assert!(rt; read == Some((sum, refused)), "of {input}");
+        expect_that(&rt, read == Some((sum, refused)), input);
     }
-    let mut lines = Lines::new(alloc, "\"a\"\n\"b\" x".as_bytes(), 9);
-    expect_next(&rt, alloc, &mut lines, "a");
-    expect_next(&rt, alloc, &mut lines, "b");
-    assert!(rt; errors_in(alloc, LOG.as_bytes()).ok() == Some(2));
+    let texts = "\"a\"\n\"b\" x";
+    expect_that(&rt, are_texts(alloc, texts, "a", "b"), texts);
+    expect_that(&rt, errors_in(alloc, LOG.as_bytes()).ok() == Some(2), LOG);
 }
 
 /// Whether the refusal's message begins so, and is no longer where `is_whole` says so.
@@ -257,8 +266,9 @@ fn has_message(alloc: Global, refusal: LineError, text: &str, is_whole: bool) ->
 fn refusals_have_a_message(rt: HostRuntime) {
     let alloc = rt.alloc();
     let long = LineError::TooLong { number: 12 };
-    assert!(rt; has_message(alloc, long, "line 12 is too long", true));
-    assert!(rt; has_message(alloc, LineError::Memory, "out of memory", true));
     let failed = LineError::Io(io::Error::from(ErrorKind::BrokenPipe));
-    assert!(rt; has_message(alloc, failed, "I/O error: ", false));
+    let holds = has_message(alloc, long, "line 12 is too long", true)
+        && has_message(alloc, LineError::Memory, "out of memory", true)
+        && has_message(alloc, failed, "I/O error: ", false);
+    assert!(rt; holds);
 }

@@ -1,6 +1,7 @@
 //! Truth values and whole numbers: as what they are read and written, and the numbers that a type has not.
 
 use crate::readers::By;
+use crate::refusals::expect_called;
 use crate::rows::{Case, Told, expect};
 use crate::typed::expect_values;
 use facet_json_facet::Facet;
@@ -125,34 +126,57 @@ fn expect_outside<'de, T: Facet<'de>>(
     }
 }
 
+/// Fails where a type of this name has not the numbers within its bounds, has one beside them, or takes an event that is no whole number.
+fn expect_number<'de, T: Facet<'de>>(
+    rt: &impl Abort,
+    alloc: Global,
+    name: &'de str,
+    inside: &'de str,
+    outside: &'de str,
+) {
+    expect_inside::<T>(rt, alloc, inside);
+    expect_outside::<T>(rt, alloc, name, outside);
+    expect_called::<T>(rt, alloc, name, &["7"]);
+}
+
 /// The least and the greatest number of types, and the numbers beside them.
 #[test]
-fn numbers_have_bounds(rt: HostRuntime) {
+fn numbers_without_a_sign_have_bounds(rt: HostRuntime) {
     let alloc = rt.alloc();
-    expect_inside::<u8>(&rt, alloc, "0 255");
-    expect_outside::<u8>(&rt, alloc, "u8", "-1 256 300");
-    expect_inside::<u16>(&rt, alloc, "0 65535");
-    expect_outside::<u16>(&rt, alloc, "u16", "-1 65536");
-    expect_inside::<u32>(&rt, alloc, "0 4294967295");
-    expect_outside::<u32>(&rt, alloc, "u32", "-1 4294967296");
-    expect_inside::<u64>(&rt, alloc, "0 18446744073709551615");
-    expect_outside::<u64>(&rt, alloc, "u64", "-1");
-    expect_inside::<usize>(&rt, alloc, "0 18446744073709551615");
-    expect_outside::<usize>(&rt, alloc, "usize", "-1");
-    expect_inside::<u128>(&rt, alloc, "0 18446744073709551615 18446744073709551616");
-    expect_outside::<u128>(&rt, alloc, "u128", "-1");
-    expect_inside::<i8>(&rt, alloc, "-128 127");
-    expect_outside::<i8>(&rt, alloc, "i8", "-129 128");
-    expect_inside::<i16>(&rt, alloc, "-32768 32767");
-    expect_outside::<i16>(&rt, alloc, "i16", "-32769 32768");
-    expect_inside::<i32>(&rt, alloc, "-2147483648 2147483647");
-    expect_outside::<i32>(&rt, alloc, "i32", "-2147483649 2147483648");
-    expect_inside::<i64>(&rt, alloc, "-9223372036854775808 9223372036854775807");
-    expect_outside::<i64>(&rt, alloc, "i64", "9223372036854775808");
-    expect_inside::<isize>(&rt, alloc, "-9223372036854775808 9223372036854775807");
-    expect_outside::<isize>(&rt, alloc, "isize", "9223372036854775808");
-    expect_inside::<i128>(&rt, alloc, "-9223372036854775808 9223372036854775807");
+    expect_number::<u8>(&rt, alloc, "u8", "0 255", "-1 256 300");
+    expect_number::<u16>(&rt, alloc, "u16", "0 65535", "-1 65536");
+    expect_number::<u32>(&rt, alloc, "u32", "0 4294967295", "-1 4294967296");
+    expect_number::<u64>(&rt, alloc, "u64", "0 18446744073709551615", "-1");
+    expect_number::<usize>(&rt, alloc, "usize", "0 18446744073709551615", "-1");
     expect::<u8>(&rt, alloc, By::Each, &NO_BYTE);
-    expect::<i128>(&rt, alloc, By::Each, &NOT_SIGNED);
-    expect::<u128>(&rt, alloc, By::Each, &NOT_UNSIGNED);
 }
+
+/// The least and the greatest number of 64 bits.
+const SIGNED_BOUNDS: &str = "-9223372036854775808 9223372036854775807";
+
+#[test]
+fn numbers_with_a_sign_have_bounds(rt: HostRuntime) {
+    let alloc = rt.alloc();
+    expect_number::<i8>(&rt, alloc, "i8", "-128 127", "-129 128");
+    expect_number::<i16>(&rt, alloc, "i16", "-32768 32767", "-32769 32768");
+    let outside = "-2147483649 2147483648";
+    expect_number::<i32>(&rt, alloc, "i32", "-2147483648 2147483647", outside);
+    expect_number::<i64>(&rt, alloc, "i64", SIGNED_BOUNDS, "9223372036854775808");
+    expect_number::<isize>(&rt, alloc, "isize", SIGNED_BOUNDS, "9223372036854775808");
+}
+
+#[test]
+fn numbers_of_128_bits_have_bounds(rt: HostRuntime) {
+    let alloc = rt.alloc();
+    let inside = "0 18446744073709551615 18446744073709551616";
+    expect_inside::<u128>(&rt, alloc, inside);
+    expect_outside::<u128>(&rt, alloc, "u128", "-1");
+    expect_called::<u128>(&rt, alloc, "u128", &["7", "18446744073709551616"]);
+    expect::<u128>(&rt, alloc, By::Each, &NOT_UNSIGNED);
+    expect_inside::<i128>(&rt, alloc, SIGNED_BOUNDS);
+    expect_called::<i128>(&rt, alloc, "i128", &TAKEN);
+    expect::<i128>(&rt, alloc, By::Each, &NOT_SIGNED);
+}
+
+/// Inputs that a type of 128 bits with a sign takes.
+static TAKEN: [&str; 3] = ["7", "18446744073709551616", "-9223372036854775809"];

@@ -1,11 +1,11 @@
 //! Values with where their documents end, and documents one after another.
 
+use crate::expecting::expect_that;
 use crate::readers::By;
 use crate::rows::{Case, Told, expect};
 use facet_format::Span;
 use facet_json::{Documents, from_slice_prefix, from_str_prefix};
 use std::alloc::Global;
-use std::process::Abort;
 
 /// Inputs that begin with a number, the number, and the offset at which it ends.
 static NUMBERS: [(&str, u8, usize); 7] = [
@@ -35,20 +35,27 @@ static LISTS: [(&str, usize); 5] = [
 
 /// The end of the list of numbers that the input begins with.
 fn list_end(alloc: Global, input: &str) -> Option<usize> {
-    let (_, end) = from_str_prefix::<Vec<u8>>(alloc, input).ok()?;
-    Some(end)
+    match from_str_prefix::<Vec<u8>>(alloc, input) {
+        Ok((_, end)) => Some(end),
+        Err(_) => None,
+    }
 }
 
-/// Fails where four texts, which are these behind one another, don't stand one after another.
-fn expect_four(rt: &impl Abort, alloc: Global, input: &str, wanted: &str) {
-    let mut texts = String::new(alloc);
-    let mut left = input.as_bytes();
-    for _ in 0..4 {
-        let (text, end) = from_slice_prefix::<String>(alloc, left).expect(rt, "a text");
-        texts.push_str(text.as_str()).expect(rt, "memory");
-        left = left.get(end..).expect(rt, "an end within the input");
+/// The end of the text that the input begins with, where it is this one.
+fn text_end(alloc: Global, input: &[u8], wanted: &str) -> Option<usize> {
+    match from_slice_prefix::<String>(alloc, input) {
+        Ok((text, end)) if text.as_str() == wanted => Some(end),
+        _ => None,
     }
-    assert!(rt; left.is_empty() && texts.as_str() == wanted, "{texts}");
+}
+
+/// What is left of the input behind these texts, where they stand one after another.
+fn behind<'i>(alloc: Global, input: &'i [u8], texts: &[&str]) -> Option<&'i [u8]> {
+    let mut left = input;
+    for text in texts {
+        left = left.get(text_end(alloc, left, text)?..)?;
+    }
+    Some(left)
 }
 
 /// What begins no number.
@@ -62,10 +69,10 @@ static NO_NUMBERS: [Case<'static>; 3] = [
 fn values_end_where_they_do(rt: HostRuntime) {
     let alloc = rt.alloc();
     for &(input, number, end) in &NUMBERS {
-        assert!(rt; is_read(alloc, input, number, end), "of {input}");
+        expect_that(&rt, is_read(alloc, input, number, end), input);
     }
     for &(input, end) in &LISTS {
-        assert!(rt; list_end(alloc, input) == Some(end), "of {input}");
+        expect_that(&rt, list_end(alloc, input) == Some(end), input);
     }
     expect::<u8>(&rt, alloc, By::Lenient, &NO_NUMBERS);
 }
@@ -100,10 +107,9 @@ fn summed(documents: &mut Documents<'_, u8>) -> (u64, usize, Option<Span>) {
 
 /// Whether the numbers of a row are read so, and none comes after them.
 fn is_summed(alloc: Global, row: &(&str, u64, usize, usize, Option<Span>)) -> bool {
-    let &(input, sum, count, end, refused) = row;
-    let mut documents = Documents::new(alloc, input.as_bytes());
-    summed(&mut documents) == (sum, count, refused)
-        && documents.offset() == end
+    let mut documents = Documents::new(alloc, row.0.as_bytes());
+    summed(&mut documents) == (row.1, row.2, row.4)
+        && documents.offset() == row.3
         && documents.next().is_none()
 }
 
@@ -111,7 +117,8 @@ fn is_summed(alloc: Global, row: &(&str, u64, usize, usize, Option<Span>)) -> bo
 fn documents_stand_one_after_another(rt: HostRuntime) {
     let alloc = rt.alloc();
     for row in &STREAMS {
-        assert!(rt; is_summed(alloc, row), "of {}", row.0);
+        expect_that(&rt, is_summed(alloc, row), row.0);
     }
-    expect_four(&rt, alloc, "\"a\"\"\" \"b\\u0063\"\n\"d\"", "abcd");
+    let texts = "\"a\"\"\" \"b\\u0063\"\n\"d\"".as_bytes();
+    assert!(rt; behind(alloc, texts, &["a", "", "bc", "d"]) == Some(b""));
 }

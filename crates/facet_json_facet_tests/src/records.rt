@@ -1,48 +1,70 @@
 //! Structs of two fields: they are read from objects by a table of their fields, and written call by call.
 
-use crate::typed::{is_written, refusal};
-use facet_format::{DeserializeError, DeserializeErrorKind, FormatSerializer, Span};
+use crate::expecting::expect_that;
+use crate::lent;
+use crate::readers::By;
+use crate::rows::{Case, Told, expect};
+use crate::typed::is_written;
+use facet_format::{DeserializeError, FormatSerializer};
 use facet_json::{Done, Need, read_fields};
 use facet_json_core::RawJson;
+use facet_json_examples::records::{Person, Response};
 use facet_json_facet::Facet;
 use facet_json_parser::JsonParser;
 use facet_json_serializer::{JsonSerializeError, JsonSerializer};
 use std::alloc::Global;
-use std::process::Abort;
 
-/// Two fields.
-type Pair<A, B> = Need<A, Need<B, Done>>;
+/// Objects that are read as persons, how these are written, and such as lack a field: the first one that they lack, at their end.
+#[rattlefmt::skip]
+static PERSONS: [Case<'static>; 9] = [
+    ("{\"name\": \"Alice\", \"age\": 30}", Told::Value("{\"name\":\"Alice\",\"age\":30}"), 0, 0),
+    ("{\"age\":30,\"extra\":{\"a\":[1,2]},\"name\":\"Alice\"}", Told::Value("{\"name\":\"Alice\",\"age\":30}"), 0, 0),
+    ("{\"x\":\"\\ud800\",\"name\":\"A\",\"\":[1 2:],\"age\":1,}", Told::Value("{\"name\":\"A\",\"age\":1}"), 0, 0),
+    ("{\"age\":1,\"name\":\"A\",\"age\":2,\"name\":\"B\"}", Told::Value("{\"name\":\"B\",\"age\":2}"), 0, 0),
+    ("{\"n\\u0061me\":\"A\",\"age\":4294967295}", Told::Value("{\"name\":\"A\",\"age\":4294967295}"), 0, 0),
+    ("{\"name\":\"Alice\"}", Told::Missing("age"), 15, 1),
+    ("{\"age\":30}", Told::Missing("name"), 9, 1),
+    ("{}", Told::Missing("name"), 1, 1),
+    (" {\"Name\":\"Alice\",\"ag\":{} }", Told::Missing("name"), 25, 1),
+];
 
-/// A person, as `{"name":"Alice","age":30}`.
-static PERSON: [&str; 2] = ["name", "age"];
+/// Responses: whatever stands under `data` stays as it stands there. And one without it.
+#[rattlefmt::skip]
+static RESPONSES: [Case<'static>; 2] = [
+    (
+        "{\"status\": 200, \"data\": {\"nested\": [1, 2, 3], \"complex\": true}}",
+        Told::Value("{\"status\":200,\"data\":{\"nested\": [1, 2, 3], \"complex\": true}}"),
+        0,
+        0,
+    ),
+    ("{\"status\":200 }", Told::Missing("data"), 14, 1),
+];
 
-/// A point, as `{"x":10,"y":20}`.
-static POINT: [&str; 2] = ["x", "y"];
-
-/// A response, as `{"status":200,"data":[]}`: whatever stands under `data` stays as it stands there.
-static RESPONSE: [&str; 2] = ["status", "data"];
-
-/// Reads two fields, which may borrow of the input where `borrows` says so.
-fn read_pair<'t, 'de, A: Facet<'de>, B: Facet<'de>>(
+/// Reads a point, as `{"x":10,"y":20}`.
+fn read_point<'t>(
     alloc: Global,
-    names: &'t [&'t str],
-    input: &'de str,
-    borrows: bool,
-) -> Result<Pair<A, B>, DeserializeError<'t>> {
+    input: &str,
+) -> Result<Need<i32, Need<i32, Done>>, DeserializeError<'t>> {
     let mut parser = JsonParser::new(alloc, input.as_bytes());
-    read_fields(alloc, &mut parser, borrows, names)
+    read_fields(alloc, &mut parser, false, &["x", "y"])
 }
 
-/// Whether these two were read.
-fn is_pair<A: PartialEq, B: PartialEq>(
-    answer: &Result<Pair<A, B>, DeserializeError<'_>>,
-    first: &A,
-    second: &B,
-) -> bool {
-    match answer {
-        Ok(Need(a, Need(b, Done))) => *a == *first && *b == *second,
+/// Whether this point is read.
+fn is_point(alloc: Global, input: &str, across: i32, down: i32) -> bool {
+    match read_point(alloc, input) {
+        Ok(Need(x, Need(y, Done))) => x == across && y == down,
         Err(_) => false,
     }
+}
+
+#[test]
+fn structs_are_read(rt: HostRuntime) {
+    let alloc = rt.alloc();
+    expect::<Person>(&rt, alloc, By::Lenient, &PERSONS);
+    expect::<lent::Person<'static>>(&rt, alloc, By::Borrowed, &PERSONS);
+    expect::<Response<RawJson<'static>>>(&rt, alloc, By::Borrowed, &RESPONSES);
+    let point = "{\"x\": 10, \"y\": 20}";
+    expect_that(&rt, is_point(alloc, point, 10, 20), point);
 }
 
 /// Writes two fields.
@@ -60,109 +82,39 @@ fn write_pair<'de, A: Facet<'de>, B: Facet<'de>>(
     serializer.end_struct()
 }
 
-/// Fails where two fields are not written as this text.
-fn expect_written<'de, A: Facet<'de>, B: Facet<'de>>(
-    rt: &impl Abort,
+/// Whether two fields are written as this text.
+fn is_pair<'de, A: Facet<'de>, B: Facet<'de>>(
     alloc: Global,
     names: &[&str; 2],
-    fields: (&A, &B),
+    first: &A,
+    second: &B,
     text: &str,
-) {
+) -> bool {
     let mut serializer = JsonSerializer::new(alloc);
-    let written = write_pair(&mut serializer, names, fields.0, fields.1);
-    assert!(rt; written.is_ok(), "{text}");
-    assert!(rt;
-        is_written(serializer.finish(), text) == Some(true),
-        "{text}"
-    );
-}
-
-/// Objects that are read as a person, with the name and the age.
-static PERSONS: [(&str, &str, u32); 5] = [
-    ("{\"name\": \"Alice\", \"age\": 30}", "Alice", 30),
-    (
-        "{\"age\":30,\"extra\":{\"a\":[1,2]},\"name\":\"Alice\"}",
-        "Alice",
-        30,
-    ),
-    (
-        "{\"x\":\"\\ud800\",\"name\":\"A\",\"\":[1 2:],\"age\":1,}",
-        "A",
-        1,
-    ),
-    (
-        "{\"age\":1,\"name\":\"A\",\"age\":2,\"name\":\"B\"}",
-        "B",
-        2,
-    ),
-    ("{\"n\\u0061me\":\"A\",\"age\":4294967295}", "A", 4294967295),
-];
-
-/// Fails where the object is not read as this person, with a name of its own and with a borrowed one.
-fn expect_person(rt: &impl Abort, alloc: Global, input: &str, name: &str, age: u32) {
-    let lent = read_pair::<&str, u32>(alloc, &PERSON, input, true);
-    assert!(rt; is_pair(&lent, &name, &age), "of {input}");
-    let name = String::from_str(alloc, name).expect(rt, "memory");
-    let owned = read_pair::<String, u32>(alloc, &PERSON, input, false);
-    assert!(rt; is_pair(&owned, &name, &age), "of {input}");
-}
-
-/// Objects that lack a field of a person: the first one that they lack, and where they end.
-static LACKING: [(&str, &str, usize); 4] = [
-    ("{\"name\":\"Alice\"}", "age", 15),
-    ("{\"age\":30}", "name", 9),
-    ("{}", "name", 1),
-    (" {\"Name\":\"Alice\",\"ag\":{} }", "name", 25),
-];
-
-/// The refusal of an object without this field at its closing bracket, which is at this byte.
-fn missing<'t>(field: &'t str, bracket: usize) -> Option<DeserializeError<'t>> {
-    let kind = DeserializeErrorKind::MissingField { field };
-    Some(refusal(kind, Span::new(bracket, 1)))
+    write_pair(&mut serializer, names, first, second).is_ok()
+        && is_written(serializer.finish(), text) == Some(true)
 }
 
 #[test]
-fn persons_are_read_and_written(rt: HostRuntime) {
+fn structs_are_written(rt: HostRuntime) {
     let alloc = rt.alloc();
-    for &(input, name, age) in &PERSONS {
-        expect_person(&rt, alloc, input, name, age);
-    }
-    expect_written(
+    let text = "{\"name\":\"Alice\",\"age\":30}";
+    expect_that(
         &rt,
-        alloc,
-        &PERSON,
-        (&"Alice", &30_u32),
-        "{\"name\":\"Alice\",\"age\":30}",
+        is_pair(alloc, &["name", "age"], &"Alice", &30_u32, text),
+        text,
     );
-    for &(input, field, bracket) in &LACKING {
-        let owned = read_pair::<String, u32>(alloc, &PERSON, input, false).err();
-        assert!(rt; owned == missing(field, bracket), "of {input}");
-        let lent = read_pair::<&str, u32>(alloc, &PERSON, input, true).err();
-        assert!(rt; lent == missing(field, bracket), "of {input}");
-    }
-}
-
-/// What a response holds.
-const PAYLOAD: &str = "{\"nested\": [1, 2, 3], \"complex\": true}";
-
-#[test]
-fn points_and_responses_are_read_and_written(rt: HostRuntime) {
-    let alloc = rt.alloc();
-    let point = read_pair::<i32, i32>(alloc, &POINT, "{\"x\": 10, \"y\": 20}", false);
-    assert!(rt; is_pair(&point, &10, &20));
-    expect_written(
+    let text = "{\"x\":10,\"y\":20}";
+    expect_that(
         &rt,
-        alloc,
-        &POINT,
-        (&10_i32, &20_i32),
-        "{\"x\":10,\"y\":20}",
+        is_pair(alloc, &["x", "y"], &10_i32, &20_i32, text),
+        text,
     );
-    let payload = RawJson::new(PAYLOAD);
-    let input = "{\"status\": 200, \"data\": {\"nested\": [1, 2, 3], \"complex\": true}}";
-    let response = read_pair::<u32, RawJson<'static>>(alloc, &RESPONSE, input, true);
-    assert!(rt; is_pair(&response, &200, &payload));
+    let payload = RawJson::new("{\"nested\": [1, 2, 3], \"complex\": true}");
     let text = "{\"status\":200,\"data\":{\"nested\": [1, 2, 3], \"complex\": true}}";
-    expect_written(&rt, alloc, &RESPONSE, (&200_u32, &payload), text);
-    let lacking = read_pair::<u32, RawJson<'static>>(alloc, &RESPONSE, "{\"status\":200 }", true);
-    assert!(rt; lacking.err() == missing("data", 14));
+    expect_that(
+        &rt,
+        is_pair(alloc, &["status", "data"], &200_u32, &payload, text),
+        text,
+    );
 }

@@ -1,8 +1,9 @@
 //! What is no value of a type: each type refuses every other event by its own name and the event's, and the parser goes on after it.
 
-use crate::typed::{is_passed, is_told, refusal};
+use crate::expecting::expect_of;
+use crate::typed::{is_passed, is_read_as, is_told, refusal};
 use facet_format::{DeserializeError, DeserializeErrorKind, FormatParser, Span};
-use facet_json_facet::Facet;
+use facet_json_facet::{Facet, value_in};
 use facet_json_parser::JsonParser;
 use facet_json_tree::Tree;
 use std::alloc::Global;
@@ -71,15 +72,9 @@ fn refuses<'de, T: Facet<'de>>(
     borrows: bool,
     error: DeserializeError<'de>,
 ) -> bool {
-    if !passes(parser, before) {
-        return false;
-    }
-    let answer = if borrows {
-        T::read(alloc, parser)
-    } else {
-        T::read_owned(alloc, parser)
-    };
-    is_told(answer, error) && is_passed(parser.next_event())
+    passes(parser, before)
+        && is_told(value_in::<T>(alloc, parser, borrows), error)
+        && is_passed(parser.next_event())
 }
 
 /// Whether it is refused so of a new parser.
@@ -94,71 +89,82 @@ fn is_refused<'de, T: Facet<'de>>(
     refuses::<T>(alloc, &mut parser, before, borrows, error)
 }
 
+/// Whether the row's event is refused by the type of this name, where the value may borrow and where it may not.
+fn is_refused_by<'de, T: Facet<'de>>(alloc: Global, name: &'de str, row: &Row<'de>) -> bool {
+    let error = refusal(kind_of(name, row.2), Span::new(row.3, row.4));
+    is_refused::<T>(alloc, row.0, &row.1, false, error)
+        && is_refused::<T>(alloc, row.0, &row.1, true, error)
+}
+
 /// Fails where the type of this name doesn't refuse an event of each kind, but for those of the inputs that it takes.
-fn expect_called<'de, T: Facet<'de>>(
+pub fn expect_called<'de, T: Facet<'de>>(
     rt: &impl Abort,
     alloc: Global,
     name: &'de str,
     taken: &[&'de str],
 ) {
-    for (input, before, got, offset, len) in &EVENTS {
-        if !taken.contains(input) {
-            let error = refusal(kind_of(name, *got), Span::new(*offset, *len));
-            let owned = is_refused::<T>(alloc, *input, before, false, error);
-            let lent = is_refused::<T>(alloc, *input, before, true, error);
-            assert!(rt; owned && lent, "{name} of {input}");
-        }
+    for row in &EVENTS {
+        let input: &'de str = row.0;
+        let holds = taken.contains(&input) || is_refused_by::<T>(alloc, name, row);
+        expect_of(rt, holds, name, input);
     }
 }
 
+/// Inputs that a type of texts takes.
+static TEXTS: [&str; 3] = ["\"x\"", "18446744073709551616", "-9223372036854775809"];
+
 #[test]
-fn types_have_names(rt: HostRuntime) {
+fn scalars_have_names(rt: HostRuntime) {
     let alloc = rt.alloc();
-    let texts = ["\"x\"", "18446744073709551616", "-9223372036854775809"];
-    expect_called::<u8>(&rt, alloc, "u8", &["7"]);
-    expect_called::<u16>(&rt, alloc, "u16", &["7"]);
-    expect_called::<u32>(&rt, alloc, "u32", &["7"]);
-    expect_called::<u64>(&rt, alloc, "u64", &["7"]);
-    expect_called::<usize>(&rt, alloc, "usize", &["7"]);
-    expect_called::<i8>(&rt, alloc, "i8", &["7"]);
-    expect_called::<i16>(&rt, alloc, "i16", &["7"]);
-    expect_called::<i32>(&rt, alloc, "i32", &["7"]);
-    expect_called::<i64>(&rt, alloc, "i64", &["7"]);
-    expect_called::<isize>(&rt, alloc, "isize", &["7"]);
-    expect_called::<u128>(&rt, alloc, "u128", &["7", texts[1]]);
-    expect_called::<i128>(&rt, alloc, "i128", &["7", texts[1], texts[2]]);
     expect_called::<bool>(&rt, alloc, "bool", &["true"]);
-    expect_called::<String>(&rt, alloc, "string", &texts);
-    expect_called::<&'static str>(&rt, alloc, "string", &texts);
+    expect_called::<String>(&rt, alloc, "string", &TEXTS);
+    expect_called::<&'static str>(&rt, alloc, "string", &TEXTS);
     expect_called::<Option<u8>>(&rt, alloc, "u8", &["null", "7"]);
-    expect_called::<Vec<u8>>(&rt, alloc, "array", &["[]"]);
-    expect_called::<BTreeMap<String, u8>>(&rt, alloc, "object", &["{}"]);
-    let values = [
-        "null", "true", "7", "1.5", texts[0], texts[1], texts[2], "{}", "[]",
-    ];
-    expect_called::<Tree>(&rt, alloc, "value", &values);
 }
 
-/// Fails where the second item of the list is not this one, after the first one was refused.
-fn expect_second<'de, T: Facet<'de> + PartialEq>(
-    rt: &impl Abort,
+/// Inputs that a type of any values takes.
+static VALUES: [&str; 9] = [
+    "null",
+    "true",
+    "7",
+    "1.5",
+    "\"x\"",
+    "18446744073709551616",
+    "-9223372036854775809",
+    "{}",
+    "[]",
+];
+
+#[test]
+fn containers_have_names(rt: HostRuntime) {
+    let alloc = rt.alloc();
+    expect_called::<Vec<u8>>(&rt, alloc, "array", &["[]"]);
+    expect_called::<BTreeMap<String, u8>>(&rt, alloc, "object", &["{}"]);
+    expect_called::<Tree>(&rt, alloc, "value", &VALUES);
+}
+
+/// Whether the second item of the list that comes is written as this, after the first one was refused.
+fn has_second<'de, T: Facet<'de>>(
     alloc: Global,
-    input: &'de str,
-    wanted: T,
-) {
+    parser: &mut JsonParser<'de>,
+    written: &str,
+) -> bool {
+    is_passed(parser.next_event())
+        && T::read(alloc, parser).is_err()
+        && is_read_as(alloc, T::read(alloc, parser), written)
+}
+
+/// The same of the list that is the input.
+fn is_second<'de, T: Facet<'de>>(alloc: Global, input: &'de str, written: &str) -> bool {
     let mut parser = JsonParser::new(alloc, input.as_bytes());
-    assert!(rt; is_passed(parser.next_event()), "of {input}");
-    assert!(rt; T::read(alloc, &mut parser).is_err(), "of {input}");
-    assert!(rt;
-        T::read(alloc, &mut parser).ok() == Some(wanted),
-        "of {input}"
-    );
+    has_second::<T>(alloc, &mut parser, written)
 }
 
 #[test]
 fn a_refused_value_is_passed(rt: HostRuntime) {
     let alloc = rt.alloc();
-    expect_second(&rt, alloc, "[1,true]", true);
-    expect_second(&rt, alloc, "[300,7]", 7_u8);
-    expect_second(&rt, alloc, "[\"a\\u0062\",\"c\"]", "c");
+    let holds = is_second::<bool>(alloc, "[1,true]", "true")
+        && is_second::<u8>(alloc, "[300,7]", "7")
+        && is_second::<&'static str>(alloc, "[\"a\\u0062\",\"c\"]", "\"c\"");
+    assert!(rt; holds);
 }

@@ -1,11 +1,12 @@
 //! Rows of what each function that reads a value of a type answers: with ample memory, and where one request for memory is refused. Each
 //! row is tried twice: as one request is refused in a run, memory runs out in one of the two at most, and the other gives the whole answer.
 
+use crate::expecting::expect_of;
 use crate::readers::{By, ENTRIES, Entry, is_one, read_by};
 use crate::typed::{is_written, refusal};
 use facet_format::{DeserializeError, DeserializeErrorKind, FormatParser, ParseError, Span};
 use facet_json::to_vec;
-use facet_json_facet::Facet;
+use facet_json_facet::{Facet, value_in};
 use facet_json_parser::JsonParser;
 use std::alloc::Global;
 use std::process::Abort;
@@ -59,12 +60,12 @@ fn is_value<'de, T: Facet<'de>>(alloc: Global, value: &T, row: &Row<'_>) -> Opti
 /// Whether the row's answer was given.
 pub fn is_answer<'de, T: Facet<'de>>(
     alloc: Global,
-    answer: &Result<T, DeserializeError<'_>>,
+    answer: Result<T, DeserializeError<'_>>,
     row: &Row<'_>,
 ) -> Option<bool> {
     match answer {
-        Ok(value) => is_value(alloc, value, row),
-        Err(error) => is_refusal(*error, row),
+        Ok(value) => is_value(alloc, &value, row),
+        Err(error) => is_refusal(error, row),
     }
 }
 
@@ -107,16 +108,10 @@ fn reads_by<'de, T: Facet<'de>>(
     borrows: bool,
     row: &Row<'_>,
 ) -> Option<bool> {
-    let answer = if borrows {
-        T::read(alloc, parser)
-    } else {
-        T::read_owned(alloc, parser)
-    };
-    if leaves(&answer, parser) {
-        is_answer(alloc, &answer, row)
-    } else {
-        Some(false)
-    }
+    let answer = value_in::<T>(alloc, parser, borrows);
+    let goes_on = leaves(&answer, parser);
+    let is_answer = is_answer(alloc, answer, row);
+    if goes_on { is_answer } else { Some(false) }
 }
 
 /// The same of a parser of the row's input.
@@ -130,21 +125,20 @@ fn reads<'de, T: Facet<'de>>(alloc: Global, entry: &Entry, row: &Row<'de>) -> Op
     match entry {
         Entry::Owned => reads_itself::<T>(alloc, false, row),
         Entry::Borrowed => reads_itself::<T>(alloc, true, row),
-        _ => is_answer(alloc, &read_by::<T>(alloc, entry, row.input), row),
+        _ => is_answer(alloc, read_by::<T>(alloc, entry, row.input), row),
     }
 }
 
 /// The same twice.
 fn is_read<'de, T: Facet<'de>>(alloc: Global, entry: &Entry, row: &Row<'de>) -> bool {
-    let first = reads::<T>(alloc, entry, row);
-    but_once(first, reads::<T>(alloc, entry, row))
+    but_once(reads::<T>(alloc, entry, row), reads::<T>(alloc, entry, row))
 }
 
 /// Fails where an entry doesn't give the row's answer.
 fn expect_row<'de, T: Facet<'de>>(rt: &impl Abort, alloc: Global, row: &Row<'de>) {
     for (entry, name) in &ENTRIES {
         let holds = !is_one(entry, row.by) || is_read::<T>(alloc, entry, row);
-        assert!(rt; holds, "{name} of {}", row.input);
+        expect_of(rt, holds, name, row.input);
     }
 }
 

@@ -1,11 +1,12 @@
 //! Texts, and raw texts.
 
+use crate::expecting::expect_that;
 use crate::readers::By;
 use crate::rows::{Case, Told, expect};
 use crate::typed::{expect_value, is_passed, refusal};
 use facet_format::{DeserializeError, DeserializeErrorKind, FormatParser, Span};
 use facet_json_core::RawJson;
-use facet_json_facet::Facet;
+use facet_json_facet::{Facet, value_in};
 use facet_json_parser::JsonParser;
 use std::alloc::Global;
 use std::borrow::CowStr;
@@ -70,33 +71,26 @@ fn texts_are_read_and_written(rt: HostRuntime) {
     expect::<String>(&rt, rt.alloc(), By::Each, &NO_TEXTS);
 }
 
-/// Inputs, and the raw texts that they begin with, which are written as they stand.
-static RAWS: [(&str, &str); 4] = [
-    ("[1, {\"a\" :2}]", "[1, {\"a\" :2}]"),
-    ("01.50", "01.50"),
-    (" \"\\u0061\" ", "\"\\u0061\""),
-    ("[\"\\ud800\"] true", "[\"\\ud800\"]"),
-];
-
-/// What is no raw text.
-static NO_RAWS: [Case<'static>; 2] = [
+/// Inputs, the raw texts that they begin with, which are written as they stand, and what is none.
+static RAWS: [Case<'static>; 6] = [
+    ("[1, {\"a\" :2}]", Told::Value("[1, {\"a\" :2}]"), 0, 0),
+    ("01.50", Told::Value("01.50"), 0, 0),
+    (" \"\\u0061\" ", Told::Value("\"\\u0061\""), 0, 0),
+    ("[\"\\ud800\"] true", Told::Value("[\"\\ud800\"]"), 0, 0),
     (" ", Told::End("value"), 1, 0),
     ("[1", Told::End("value"), 2, 0),
 ];
 
 #[test]
 fn a_raw_text_is_kept_as_it_stands(rt: HostRuntime) {
-    let alloc = rt.alloc();
-    for &(input, text) in &RAWS {
-        expect_value(&rt, alloc, By::Lenient, input, &RawJson::new(text), text);
-    }
-    expect::<RawJson<'static>>(&rt, alloc, By::Lenient, &NO_RAWS);
+    expect::<RawJson<'static>>(&rt, rt.alloc(), By::Lenient, &RAWS);
 }
 
-/// Whether the list was read, and is borrowed or not, as `is_lent` says.
-fn is_list(answer: &Result<RawJson<'_>, DeserializeError<'_>>, is_lent: bool) -> bool {
-    match answer {
-        Ok(RawJson(CowStr::Borrowed(lent))) => is_lent && *lent == "[1]",
+/// Whether a list is read as raw text that is borrowed or not, as `is_lent` says.
+fn is_list(alloc: Global, is_lent: bool) -> bool {
+    let mut parser = JsonParser::new(alloc, b"[1]");
+    match value_in(alloc, &mut parser, is_lent) {
+        Ok(RawJson(CowStr::Borrowed(lent))) => is_lent && lent == "[1]",
         Ok(RawJson(CowStr::Owned(copy))) => !is_lent && copy.as_str() == "[1]",
         Err(_) => false,
     }
@@ -138,12 +132,9 @@ static INSIDE: [(&str, DeserializeErrorKind<'static>, usize); 4] = [
 #[test]
 fn a_raw_text_is_lent_or_copied(rt: HostRuntime) {
     let alloc = rt.alloc();
-    let lent = RawJson::read(alloc, &mut JsonParser::new(alloc, b"[1]"));
-    assert!(rt; is_list(&lent, true));
-    let copied = RawJson::read_owned(alloc, &mut JsonParser::new(alloc, b"[1]"));
-    assert!(rt; is_list(&copied, false));
+    assert!(rt; is_list(alloc, true) && is_list(alloc, false));
     for &(input, kind, offset) in &INSIDE {
         let error = refusal(kind, Span::new(offset, 0));
-        assert!(rt; refused_inside(alloc, input) == Some(error), "of {input}");
+        expect_that(&rt, refused_inside(alloc, input) == Some(error), input);
     }
 }

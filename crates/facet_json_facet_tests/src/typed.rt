@@ -1,5 +1,6 @@
 //! What a type reads of an input, how it refuses one, and what it writes.
 
+use crate::expecting::{expect_of, expect_that};
 use crate::readers::{By, ENTRIES, is_one, read_by};
 use facet_format::{DeserializeError, DeserializeErrorKind, ParseError, ParseEvent, Span};
 use facet_json::{to_string, to_vec};
@@ -9,11 +10,16 @@ use std::alloc::Global;
 use std::process::Abort;
 
 /// Whether this value was read.
-fn is_wanted<T: PartialEq>(answer: &Result<T, DeserializeError<'_>>, wanted: &T) -> bool {
+fn is_wanted<T: PartialEq + Drop>(answer: Result<T, DeserializeError<'_>>, wanted: &T) -> bool {
     match answer {
-        Ok(value) => *value == *wanted,
+        Ok(value) => value == *wanted,
         Err(_) => false,
     }
+}
+
+/// Whether the value is written as the text, as bytes and as a string.
+fn is_written_as<'de, T: Facet<'de>>(alloc: Global, value: &T, text: &str) -> bool {
+    is_written(to_vec(alloc, value), text) == Some(true) && is_text(to_string(alloc, value), text)
 }
 
 /// Fails where one of these entries doesn't read the input as this value, or where the value isn't written as the text.
@@ -26,14 +32,10 @@ pub fn expect_value<'de, T: Facet<'de> + PartialEq>(
     text: &str,
 ) {
     for (entry, name) in &ENTRIES {
-        let holds = !is_one(entry, by) || is_wanted(&read_by::<T>(alloc, entry, input), value);
-        assert!(rt; holds, "{name} of {input}");
+        let holds = !is_one(entry, by) || is_wanted(read_by::<T>(alloc, entry, input), value);
+        expect_of(rt, holds, name, input);
     }
-    assert!(rt;
-        is_written(to_vec(alloc, value), text) == Some(true),
-        "{text}"
-    );
-    assert!(rt; is_text(to_string(alloc, value), text), "{text}");
+    expect_that(rt, is_written_as(alloc, value, text), text);
 }
 
 /// The same of rows: an input, its value, and the text of that.
@@ -45,6 +47,18 @@ pub fn expect_values<'de, T: Facet<'de> + PartialEq>(
 ) {
     for (input, value, text) in rows {
         expect_value(rt, alloc, by, *input, value, *text);
+    }
+}
+
+/// Whether a value was read that is written as this text.
+pub fn is_read_as<'de, T: Facet<'de>>(
+    alloc: Global,
+    answer: Result<T, DeserializeError<'_>>,
+    text: &str,
+) -> bool {
+    match answer {
+        Ok(value) => is_written(to_vec(alloc, &value), text) == Some(true),
+        Err(_) => false,
     }
 }
 
