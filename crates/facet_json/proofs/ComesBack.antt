@@ -3,11 +3,11 @@ use Rattle.std.proofs.Common.{◌≡◌, ℕ, List, Option, Some, Ok, Err, Resul
 use Rattle.std.specs.Prelude.{IfOk}
 use Rattle.facet_json_token.specs.Gap.{plain}
 use Rattle.facet_json_token.specs.Tokens.{ended}
-use Rattle.facet_json_document.specs.Document.{IsDocument}
-use Rattle.facet_json_document.specs.Node.{Node}
-use Rattle.facet_json_document.specs.Text.{Options, default_options, text}
-use Rattle.facet_json_document.specs.Tree.{Tree}
-use Rattle.facet_json_document.proofs.Spelling.OneSpelling.{one_document}
+use Rattle.facet_json_grammar.specs.Document.{IsDocument}
+use Rattle.facet_json_grammar.specs.Node.{Node}
+use Rattle.facet_json_grammar.specs.Text.{Options, default_options, text}
+use Rattle.facet_json_grammar.specs.Tree.{Tree}
+use Rattle.facet_json_grammar.proofs.Spelling.OneSpelling.{one_document}
 use Rattle.facet_json_core.specs.Meaning.Laws.{ReadsAs, ReadsBack}
 use Rattle.facet_json_typed.specs.Inputs.{ComesBack}
 

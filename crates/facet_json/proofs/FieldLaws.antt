@@ -1,8 +1,8 @@
 -- Fields: nodes of the same text are read alike.
 use Rattle.std.proofs.Common.{◌≡◌, ℕ, List, Option, refl, ap, ◌∙◌}
 use Rattle.std.specs.Option.{option_and_then}
-use Rattle.facet_json_document.specs.Meaning.{text_in_tree, meaning}
-use Rattle.facet_json_document.specs.Node.{Members}
+use Rattle.facet_json_grammar.specs.Meaning.{text_in_tree, meaning}
+use Rattle.facet_json_grammar.specs.Node.{Members}
 use Rattle.facet_json_core.specs.Meaning.Laws.{SameReading}
 use Rattle.facet_json_core.specs.Meaning.Nodes.{same_scalars, same_arrays, same_objects, SameMembers, same_no_members, same_member}
 use Rattle.facet_json_core.specs.Meaning.Optional.{optional}

@@ -4,8 +4,8 @@ use Rattle.std.specs.Option.{option_map, option_and_then}
 use Rattle.std.specs.Str.{bytes_eq}
 use Rattle.std.proofs.lemmas.Slice.Eq.{bytes_eq-Decides}
 use Rattle.facet_json_token.specs.Token.{Token}
-use Rattle.facet_json_document.specs.Meaning.{text_in_tree, meaning}
-use Rattle.facet_json_document.specs.Node.{Node, Members, no_members, member}
+use Rattle.facet_json_grammar.specs.Meaning.{text_in_tree, meaning}
+use Rattle.facet_json_grammar.specs.Node.{Node, Members, no_members, member}
 use Rattle.facet_json_typed.specs.Fields.{Reading, Table, table, none, seen_by, field_step, after_members}
 use Rattle.facet_json.specs.Shapes.{lacks}
 

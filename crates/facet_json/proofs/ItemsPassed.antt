@@ -5,8 +5,8 @@ use Rattle.std.proofs.lemmas.Bool.{eqb-true}
 use Rattle.facet_format.specs.Complaint.{Refusal}
 use Rattle.facet_format.specs.Cursor.{Cursor}
 use Rattle.facet_format.specs.Part.{Source}
-use Rattle.facet_json_document.specs.Node.{Node, Nodes, no_nodes, item}
-use Rattle.facet_json_document.specs.Now.{Now, ahead}
+use Rattle.facet_json_grammar.specs.Node.{Node, Nodes, no_nodes, item}
+use Rattle.facet_json_grammar.specs.Now.{Now, ahead}
 use Rattle.facet_json_core.specs.Meaning.ListSteps.{ends_list}
 use Rattle.facet_json_core.specs.Meaning.Passing.{anything, LacksAlone}
 use Rattle.facet_json_core.specs.Meaning.Inner.Taking.{Takes, StaysBefore}

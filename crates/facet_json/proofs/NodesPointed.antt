@@ -6,9 +6,9 @@ use Rattle.facet_format.specs.Cursor.{Cursor, unpeeked}
 use Rattle.facet_format.specs.Event.{Event, EventKind, struct_start, sequence_start}
 use Rattle.facet_format.specs.Event as event
 use Rattle.facet_format.specs.Part.{Source}
-use Rattle.facet_json_document.specs.Node.{Node, scalar, array, object, Nodes, Members}
-use Rattle.facet_json_document.specs.Now.{Now}
-use Rattle.facet_json_document.specs.Walk.{walk}
+use Rattle.facet_json_grammar.specs.Node.{Node, scalar, array, object, Nodes, Members}
+use Rattle.facet_json_grammar.specs.Now.{Now}
+use Rattle.facet_json_grammar.specs.Walk.{walk}
 use Rattle.facet_json_core.specs.Meaning.ListSteps.{nodes_of, begins_list}
 use Rattle.facet_json_core.specs.Meaning.Nodes.{StandsBefore}
 use Rattle.facet_json_core.specs.Meaning.Objects.{members_of, begins_object}

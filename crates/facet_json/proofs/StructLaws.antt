@@ -6,11 +6,11 @@ use Rattle.std.specs.Char.{is_ascii}
 use Rattle.std.specs.List.{list_all}
 use Rattle.std.specs.Option.{option_map}
 use Rattle.std.specs.Str.{is_utf8}
-use Rattle.facet_json_document.specs.Node.{no_members}
-use Rattle.facet_json_document.specs.Text.{text, members_text, default_options}
-use Rattle.facet_json_document.specs.Tree.{pairs, no_pairs, pair}
-use Rattle.facet_json_document.specs.AsRead.{RawParts, RawMembers, IsDocumentText}
-use Rattle.facet_json_document.proofs.Rfc.Encoded.{ascii}
+use Rattle.facet_json_grammar.specs.Node.{no_members}
+use Rattle.facet_json_grammar.specs.Text.{text, members_text, default_options}
+use Rattle.facet_json_grammar.specs.Tree.{pairs, no_pairs, pair}
+use Rattle.facet_json_grammar.specs.AsRead.{RawParts, RawMembers, IsDocumentText}
+use Rattle.facet_json_grammar.proofs.Rfc.Encoded.{ascii}
 use Rattle.facet_json_core.proofs.Meaning.TypeLaws.{nullable-laws}
 use Rattle.facet_json_core.proofs.Meaning.Nodes.TextsWithin.{ReadsAnywhere, reads-anywhere, reads-alone, text-depth}
 use Rattle.facet_json_typed.specs.Fields.{Table, table, need, maybe, field_step, need_ends, maybe_ends, fields_of}

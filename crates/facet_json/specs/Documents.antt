@@ -7,9 +7,9 @@ use Rattle.facet_format.specs.Views.{refusal_of}
 use Rattle.facet_format.specs.declared.error.DeserializeError.{DeserializeError}
 use Rattle.facet_json_token.specs.Gap.{plain}
 use Rattle.facet_json_token.specs.Cut.{past_gap}
-use Rattle.facet_json_document.specs.Language.{lenient}
-use Rattle.facet_json_document.specs.Node.{Node}
-use Rattle.facet_json_document.specs.UnreadLaws.{RefusalWithin}
+use Rattle.facet_json_grammar.specs.Language.{lenient}
+use Rattle.facet_json_grammar.specs.Node.{Node}
+use Rattle.facet_json_grammar.specs.UnreadLaws.{RefusalWithin}
 use Rattle.facet_json_typed.specs.Inputs.{BeginsWithDocument, BeginsWithRunTo, IsReadFrom, IsUnreadFrom, IsToldOf}
 
 -- An input, and the offset up to which it was read.

@@ -1,12 +1,12 @@
 -- What clauses of this crate speak of, so that a crate that uses it need not list those below it.
 pub use Rattle.facet_format.specs.Agree
 pub use Rattle.facet_format.specs.Alike
-pub use Rattle.facet_json_document.specs.Alone
-pub use Rattle.facet_json_document.specs.AsRead
-pub use Rattle.facet_json_document.specs.Begun
+pub use Rattle.facet_json_grammar.specs.Alone
+pub use Rattle.facet_json_grammar.specs.AsRead
+pub use Rattle.facet_json_grammar.specs.Begun
 pub use Rattle.facet_json_core.specs.Meaning.Borrowed
 pub use Rattle.facet_format.specs.Bytes
-pub use Rattle.facet_json_document.specs.CallLaws
+pub use Rattle.facet_json_grammar.specs.CallLaws
 pub use Rattle.facet_format.specs.Complaint
 pub use Rattle.facet_json_tree.specs.Content
 pub use Rattle.facet_format.specs.Cursor
@@ -14,9 +14,9 @@ pub use Rattle.facet_json_token.specs.Cut
 pub use Rattle.facet_json_token.specs.Decode
 pub use Rattle.facet_json_token.specs.Decoded
 pub use Rattle.facet_json_tree.specs.Depth
-pub use Rattle.facet_json_document.specs.Document
-pub use Rattle.facet_json_document.specs.Laws as DocumentLaws
-pub use Rattle.facet_json_layout.specs.Nodes as DocumentNodes
+pub use Rattle.facet_json_grammar.specs.Document
+pub use Rattle.facet_json_grammar.specs.Laws as DocumentLaws
+pub use Rattle.facet_json_document.specs.Nodes as DocumentNodes
 pub mod Documents
 pub use Rattle.facet_json_tree.specs.Edit
 pub use Rattle.facet_json_tree.specs.EditLaws
@@ -24,23 +24,23 @@ pub use Rattle.facet_json_tree.specs.EditViews
 pub use Rattle.facet_json_core.specs.ErrorKind
 pub use Rattle.facet_json_core.specs.ErrorViews
 pub use Rattle.facet_format.specs.Event
-pub use Rattle.facet_json_document.specs.EventLaws
+pub use Rattle.facet_json_grammar.specs.EventLaws
 pub use Rattle.facet_json_token.specs.Fault
 pub use Rattle.facet_json_token.specs.Faults
 pub use Rattle.facet_json_typed.specs.Fields
 pub use Rattle.facet_json_facet.specs.Finding
 pub use Rattle.facet_format.specs.Laws as FormatLaws
 pub use Rattle.facet_format.specs.Views as FormatViews
-pub use Rattle.facet_json_layout.specs.Formatted
-pub use Rattle.facet_json_document.specs.Future
+pub use Rattle.facet_json_document.specs.Formatted
+pub use Rattle.facet_json_grammar.specs.Future
 pub use Rattle.facet_json_token.specs.Gap
 pub use Rattle.facet_json_token.specs.GapLen
-pub use Rattle.facet_json_document.specs.Headline
+pub use Rattle.facet_json_grammar.specs.Headline
 pub use Rattle.facet_format.specs.HeldText
 pub mod Inner
 pub use Rattle.facet_json_typed.specs.Inputs
 pub use Rattle.facet_format.specs.Kept
-pub use Rattle.facet_json_document.specs.Language
+pub use Rattle.facet_json_grammar.specs.Language
 pub use Rattle.facet_format.specs.Line
 pub mod LineViews
 pub mod Lines
@@ -50,49 +50,49 @@ pub use Rattle.facet_json_core.specs.Meaning.Lists
 pub use Rattle.facet_json_tree.specs.Lookup
 pub mod Made
 pub use Rattle.facet_json_core.specs.Meaning.Maps
-pub use Rattle.facet_json_document.specs.Meaning
+pub use Rattle.facet_json_grammar.specs.Meaning
 pub use Rattle.facet_json_tree.specs.Merge
-pub use Rattle.facet_json_document.specs.Move
-pub use Rattle.facet_json_document.specs.Next
-pub use Rattle.facet_json_document.specs.Node
+pub use Rattle.facet_json_grammar.specs.Move
+pub use Rattle.facet_json_grammar.specs.Next
+pub use Rattle.facet_json_grammar.specs.Node
 pub use Rattle.facet_json_core.specs.Meaning.Nodes
-pub use Rattle.facet_json_document.specs.Now
+pub use Rattle.facet_json_grammar.specs.Now
 pub use Rattle.facet_format.specs.Number
 pub use Rattle.facet_format.specs.NumberParts
 pub use Rattle.facet_format.specs.NumberValue
 pub use Rattle.facet_json_core.specs.Meaning.Objects
-pub use Rattle.facet_json_document.specs.OnWalk
-pub use Rattle.facet_json_document.specs.OneRun
+pub use Rattle.facet_json_grammar.specs.OnWalk
+pub use Rattle.facet_json_grammar.specs.OneRun
 pub use Rattle.facet_json_token.specs.Open
 pub use Rattle.facet_json_core.specs.Meaning.Optional
 pub use Rattle.facet_json_serializer.specs.OptionsViews
-pub use Rattle.facet_json_document.specs.Order
-pub use Rattle.facet_json_document.specs.ParserLaws
+pub use Rattle.facet_json_grammar.specs.Order
+pub use Rattle.facet_json_grammar.specs.ParserLaws
 pub use Rattle.facet_format.specs.Part
 pub use Rattle.facet_json_core.specs.Meaning.Passing
 pub use Rattle.facet_json_core.specs.Meaning.Peeking
-pub use Rattle.facet_json_layout.specs.Pieces
-pub use Rattle.facet_json_document.specs.Place
+pub use Rattle.facet_json_document.specs.Pieces
+pub use Rattle.facet_json_grammar.specs.Place
 pub mod Pointed
 pub mod PointedViews
 pub use Rattle.facet_json_tree.specs.Pointer
 pub use Rattle.facet_json_tree.specs.PointerViews
-pub use Rattle.facet_json_document.specs.PrefixRefusal
-pub use Rattle.facet_json_document.specs.Quoted
-pub use Rattle.facet_json_document.specs.ReadBack
-pub use Rattle.facet_json_document.specs.Reader
+pub use Rattle.facet_json_grammar.specs.PrefixRefusal
+pub use Rattle.facet_json_grammar.specs.Quoted
+pub use Rattle.facet_json_grammar.specs.ReadBack
+pub use Rattle.facet_json_grammar.specs.Reader
 pub use Rattle.facet_json_core.specs.Reading
 pub use Rattle.facet_json_core.specs.Meaning.Readings
 pub use Rattle.facet_json_core.specs.Refusing
 pub use Rattle.facet_format.specs.Message
 pub use Rattle.facet_format.specs.Report
-pub use Rattle.facet_json_document.specs.RfcLaws
+pub use Rattle.facet_json_grammar.specs.RfcLaws
 pub use Rattle.facet_json_token.specs.RfcNumber
 pub use Rattle.facet_json_token.specs.RfcNumberTest
-pub use Rattle.facet_json_document.specs.RfcReadable
-pub use Rattle.facet_json_document.specs.RfcText
-pub use Rattle.facet_json_document.specs.Run
-pub use Rattle.facet_json_document.specs.RunLaws
+pub use Rattle.facet_json_grammar.specs.RfcReadable
+pub use Rattle.facet_json_grammar.specs.RfcText
+pub use Rattle.facet_json_grammar.specs.Run
+pub use Rattle.facet_json_grammar.specs.RunLaws
 pub use Rattle.facet_json_tree.specs.Same
 pub use Rattle.facet_json_core.specs.Meaning.SameBytes
 pub use Rattle.facet_json_scan.specs.Laws as ScanLaws
@@ -104,38 +104,38 @@ pub use Rattle.facet_format.specs.SerializerCall
 pub use Rattle.facet_json_serializer.specs.Views as SerializerViews
 pub use Rattle.facet_json_token.specs.Shape
 pub mod Shapes
-pub use Rattle.facet_json_document.specs.SkipLaws
+pub use Rattle.facet_json_grammar.specs.SkipLaws
 pub use Rattle.facet_json_tree.specs.Sorted
 pub use Rattle.facet_json_tree.specs.SortedLaws
 pub use Rattle.facet_json_scan.specs.Source as Sources
 pub use Rattle.facet_format.specs.Span
 pub use Rattle.facet_format.specs.Steps
 pub use Rattle.facet_json_token.specs.Strict
-pub use Rattle.facet_json_document.specs.StrictDocument
-pub use Rattle.facet_json_document.specs.StrictHeadline
-pub use Rattle.facet_json_document.specs.StrictLaws
+pub use Rattle.facet_json_grammar.specs.StrictDocument
+pub use Rattle.facet_json_grammar.specs.StrictHeadline
+pub use Rattle.facet_json_grammar.specs.StrictLaws
 pub use Rattle.facet_json_core.specs.Meaning.StrictTexts as StrictReading
-pub use Rattle.facet_json_document.specs.StrictTexts
-pub use Rattle.facet_json_document.specs.StrictTokens
+pub use Rattle.facet_json_grammar.specs.StrictTexts
+pub use Rattle.facet_json_grammar.specs.StrictTokens
 pub use Rattle.facet_json_token.specs.StrictViews
-pub use Rattle.facet_json_document.specs.Text
-pub use Rattle.facet_json_document.specs.TextLaws
+pub use Rattle.facet_json_grammar.specs.Text
+pub use Rattle.facet_json_grammar.specs.TextLaws
 pub use Rattle.facet_json_token.specs.Token
 pub use Rattle.facet_json_token.specs.TokenList
 pub use Rattle.facet_json_token.specs.Tokens
 pub use Rattle.facet_json_core.specs.Told
 pub use Rattle.facet_json_core.specs.Transcode
 pub use Rattle.facet_json_core.specs.TranscodeViews
-pub use Rattle.facet_json_document.specs.Tree
+pub use Rattle.facet_json_grammar.specs.Tree
 pub use Rattle.facet_json_serializer.specs.TreeCalls
 pub use Rattle.facet_json_core.specs.Meaning.Laws as TypedLaws
 pub use Rattle.facet_json_core.specs.Meaning.Reading as TypedReading
 pub use Rattle.facet_json_core.specs.Meaning.Trees as TypedTrees
 pub use Rattle.facet_json_core.specs.Meaning.Types
-pub use Rattle.facet_json_document.specs.Unread
-pub use Rattle.facet_json_document.specs.UnreadLaws
+pub use Rattle.facet_json_grammar.specs.Unread
+pub use Rattle.facet_json_grammar.specs.UnreadLaws
 pub use Rattle.facet_json_tree.specs.Views
-pub use Rattle.facet_json_document.specs.Walk
-pub use Rattle.facet_json_document.specs.Within
+pub use Rattle.facet_json_grammar.specs.Walk
+pub use Rattle.facet_json_grammar.specs.Within
 pub use Rattle.facet_json_tree.specs.Write
 pub use Rattle.facet_json_typed.specs.Written

@@ -5,9 +5,9 @@ use Rattle.facet_format.specs.Cursor.{Cursor, Spot}
 use Rattle.facet_format.specs.Event.{Passed}
 use Rattle.facet_format.specs.Kept.{found}
 use Rattle.facet_format.specs.Part.{Source}
-use Rattle.facet_json_document.specs.Node.{Node, scalar, array, object, Nodes, no_nodes, item, Members, no_members, member}
-use Rattle.facet_json_document.specs.Now.{Now}
-use Rattle.facet_json_document.specs.Walk.{walk}
+use Rattle.facet_json_grammar.specs.Node.{Node, scalar, array, object, Nodes, no_nodes, item, Members, no_members, member}
+use Rattle.facet_json_grammar.specs.Now.{Now}
+use Rattle.facet_json_grammar.specs.Walk.{walk}
 use Rattle.facet_json_core.specs.Reading.{LacksMemory}
 use Rattle.facet_json_core.specs.Meaning.Nodes.{StandsBefore, StandsAfter}
 use Rattle.facet_json_tree.specs.Pointer.{IsPointer, index}

@@ -4,7 +4,7 @@ use Rattle.std.specs.Char.{is_ascii}
 use Rattle.std.specs.List.{list_all}
 use Rattle.std.specs.Option.{IfSome}
 use Rattle.std.specs.Str.{bytes_eq, is_utf8}
-use Rattle.facet_json_document.specs.Tree.{pairs, Pairs, no_pairs, pair}
+use Rattle.facet_json_grammar.specs.Tree.{pairs, Pairs, no_pairs, pair}
 pub use Rattle.facet_json_core.specs.Meaning.Shapes.{Shape, ShapeLaws, shape, nullable}
 use Rattle.facet_json_core.specs.Meaning.Optional.{optional_tree, OptionalReadable}
 use Rattle.facet_json_typed.specs.Fields.{Table, none, need, maybe, fields_of}

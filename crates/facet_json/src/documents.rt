@@ -3,7 +3,7 @@
 ghost use Rattle.std.specs.Prelude.{◌≡◌, ◌+◌, ◌≤◌, ◌<◌, ◌^◌, List, ℕ, length};
 ghost use Rattle.std.specs.Iterator.{at_most};
 ghost use Rattle.facet_format.specs.Views.{refusal_of};
-ghost use Rattle.facet_json_document.specs.UnreadLaws.{RefusalWithin};
+ghost use Rattle.facet_json_grammar.specs.UnreadLaws.{RefusalWithin};
 ghost use Rattle.facet_json.specs.Documents.{rest, moved as moved_refusal, NextGives};
 
 use facet_format::{DeserializeError, Span};

@@ -14,12 +14,12 @@ pub use facet_json_core::laws::{
     tree_taken, trusted_agrees, trusted_agrees_jsonc, trusted_agrees_strict,
     unknown_changes_nothing, walk_is_one_value,
 };
-pub use facet_json_document::laws::{
+pub use facet_json_facet::laws::same_bytes_read_alike;
+pub use facet_json_grammar::laws::{
     indent_is_not_read, one_reading, quoted_by_characters, quoted_decodes_alone,
     quoted_is_rfc_string, readable_is_rfc, strict_is_rfc, written_is_read, written_is_rfc_text,
     written_is_strict,
 };
-pub use facet_json_facet::laws::same_bytes_read_alike;
 pub use facet_json_scan::laws as scanner;
 pub use facet_json_tree::laws::{
     changes_are_found, first_beyond_is_deeper, sorted_members_are_found,

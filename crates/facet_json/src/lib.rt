@@ -31,11 +31,11 @@ pub use facet_json_core::{
     Answer, Call, Excerpt, JsonError, JsonErrorKind, Position, RawJson, Report, Result,
     TranscodeError, drive, pass_end, position_at, transcode,
 };
-pub use facet_json_facet::{Facet, ReadResult};
-pub use facet_json_layout::{
+pub use facet_json_document::{
     Document, FormatOptions, Indent, Items, Members, Value, ValueKind, check, check_jsonc,
     check_strict, check_whole, format_text, format_text_strict,
 };
+pub use facet_json_facet::{Facet, ReadResult};
 pub use facet_json_parser::JsonParser;
 pub use facet_json_reader::{MaterializedToken, TokenKind};
 pub use facet_json_serializer::{

@@ -1,8 +1,8 @@
 //! Trees that are written down where they are needed: `tree!`, and what an expression in one may be.
 
 ghost use Rattle.std.specs.Prelude.{◌≡◌, ◌++◌, ◌∷◌, [], OnOk, OnErr, IfOk, string_bytes};
-ghost use Rattle.facet_json_document.specs.AsRead.{whole_number};
-ghost use Rattle.facet_json_document.specs.Tree as tree;
+ghost use Rattle.facet_json_grammar.specs.AsRead.{whole_number};
+ghost use Rattle.facet_json_grammar.specs.Tree as tree;
 ghost use Rattle.facet_json_tree.specs.Views.{tree_view, trees_view, pairs_view};
 ghost use Rattle.facet_format.specs.Event.{bytes_of};
 ghost use Rattle.facet_json.specs.Made.{tree_or_null};
@@ -140,7 +140,7 @@ fn whole(n: i64) -> Tree
 
 /// What an expression in `tree!` may be.
 pub trait IntoTree: Sized + Drop {
-    ghost use Rattle.facet_json_document.specs.Tree.{Tree};
+    ghost use Rattle.facet_json_grammar.specs.Tree.{Tree};
 
     /// The value that it stands for.
     ghost tree: { Self → Tree };

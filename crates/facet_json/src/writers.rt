@@ -2,7 +2,7 @@
 
 ghost use Rattle.std.specs.Prelude.{◌≡◌, IsErrOf, OnOk};
 ghost use Rattle.std.specs.Io.KnownBytes.{Appends};
-ghost use Rattle.facet_json_document.specs.Text.{default_options, text};
+ghost use Rattle.facet_json_grammar.specs.Text.{default_options, text};
 ghost use Rattle.facet_json_serializer.specs.OptionsViews.{options_of};
 ghost use Rattle.facet_json_tree.specs.Write.{pretty_options, IsReadable};
 

@@ -1,7 +1,7 @@
-//! Does a work with the JSON text on the standard input as often as it is told, and prints the shortest time that one took in nanoseconds, and
-//! what it passed; `bench/run` sets these times beside those of other libraries. Without arguments each work of any document is done once, and what it
-//! passed is printed and no time. The arguments are the work's name and the number of rounds, and after them `jsonc` where the text has comments, or
-//! `strict` where `events` or `trusted` shall read RFC 8259 alone.
+//! Does a work with the JSON text on the standard input as often as it is told, and prints the shortest time that one took in nanoseconds,
+//! and what it passed; `bench/run` sets these times beside those of other libraries. Without arguments each work of any document is done
+//! once, and what it passed is printed and no time. The arguments are the work's name and the number of rounds, and after them `jsonc`
+//! where the text has comments, or `strict` where `events` or `trusted` shall read RFC 8259 alone.
 #![tactic(auto)]
 
 mod accounts;

@@ -1,4 +1,5 @@
-//! A text passed token by token, event by event, or as one value. Each pass is compiled apart from the others, so that none changes another's code.
+//! A text passed token by token, event by event, or as one value. Each pass is compiled apart from the others, so that none changes
+//! another's code.
 
 use crate::seen::{Seen, held, weight};
 use facet_json::scanner::{Mode, Scanner, Token, cut};

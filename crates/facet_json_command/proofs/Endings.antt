@@ -1,7 +1,7 @@
 -- How `events` ends after what it printed, once that is on its way.
 use Rattle.std.proofs.Common.{◌≡◌, ◌≢◌, ◌⊎◌, ℕ, List, [], Option, Some, None, IfSome, refl, sym, subst, ◌∙◌, inl, inr}
 use Rattle.std.specs.Io.KnownBytes.{Keeps}
-use Rattle.facet_json_document.specs.Language.{Language}
+use Rattle.facet_json_grammar.specs.Language.{Language}
 use Rattle.facet_json_command.specs.declared.outcome.Outcome.{Outcome}
 use Rattle.facet_json_command.specs.declared.outcome.Outcome.TheVariants.{Io, Usage}
 use Rattle.facet_json_command.specs.Outcome.{IsFailure, IsFaultOfRun}

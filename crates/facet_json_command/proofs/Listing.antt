@@ -6,10 +6,10 @@ use Rattle.std.proofs.lemmas.List.{append-nil}
 use Rattle.std.proofs.lemmas.Grind.{flat_map-append}
 use Rattle.facet_format.specs.Event.{Event}
 use Rattle.facet_format.specs.Cursor.{next, Answer, event, no_calls}
-use Rattle.facet_json_document.specs.Language.{Language}
-use Rattle.facet_json_document.specs.Now.{Now, fresh_in}
-use Rattle.facet_json_document.specs.Move.{Moves, MovesAll}
-use Rattle.facet_json_document.proofs.MoveLaws.{moves-one_more}
+use Rattle.facet_json_grammar.specs.Language.{Language}
+use Rattle.facet_json_grammar.specs.Now.{Now, fresh_in}
+use Rattle.facet_json_grammar.specs.Move.{Moves, MovesAll}
+use Rattle.facet_json_grammar.proofs.MoveLaws.{moves-one_more}
 use Rattle.facet_json_command.specs.Lines.{event_line}
 use Rattle.facet_json_command.specs.declared.outcome.Outcome.{Outcome}
 use Rattle.facet_json_command.specs.declared.outcome.Outcome.TheVariants.{Done, Refused, Io, Usage}

@@ -3,7 +3,7 @@ use Rattle.std.proofs.Common.{◌≡◌, ◌≢◌, ℕ, ◌+◌, ◌*◌, ◌==
 use Rattle.std.specs.Str.Parse.{digits_value}
 use Rattle.facet_format.specs.Cursor.{Call, next, peek, events, skip, capture, save, restore, span}
 use Rattle.facet_json_token.specs.Gap.{Mode}
-use Rattle.facet_json_document.specs.Language.{Language, lenient}
+use Rattle.facet_json_grammar.specs.Language.{Language, lenient}
 use Rattle.facet_format.specs.Bytes.{comma}
 use Rattle.facet_json_command.specs.Script.{IsWordOf, IsScript, one_word, word_first}
 use Rattle.facet_json_command.specs.Arguments.{Command, fmt, events as list, tokens, drive, AreWords, AreArguments, AskFor}

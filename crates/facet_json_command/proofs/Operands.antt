@@ -1,7 +1,7 @@
 -- The words after a command: each option once at most, and other words, read from the first on.
 use Rattle.std.proofs.Common.{◌≡◌, ◌≢◌, ◌⊎◌, ℕ, zero, suc, ◌<◌, ◌≤◌, Bool, true, false, List, [], ◌∷◌, ◌++◌, length, get_or, take, drop, codes, Option, None, Some, MatchOption, String, Global, string_bytes, subst, refl, sym, ap, ◌∙◌, inl, inr, arith}
 use Rattle.facet_json_token.specs.Gap.{Mode, plain, jsonc}
-use Rattle.facet_json_document.specs.Language.{Language, lenient, strict}
+use Rattle.facet_json_grammar.specs.Language.{Language, lenient, strict}
 use Rattle.facet_format.specs.Cursor.{Call}
 use Rattle.facet_json_command.specs.Script.{IsScript}
 use Rattle.facet_json_command.specs.Arguments.{fmt, events, tokens, drive, comments, strictly, indented, AreWords, no_words, operand, with_comments, with_strict, with_indent, AreArguments, AskForNothing}

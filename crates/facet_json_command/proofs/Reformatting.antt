@@ -2,14 +2,14 @@
 use Rattle.std.proofs.Common.{◌≡◌, ℕ, List, Option, Some}
 use Rattle.facet_json_token.specs.Gap.{Mode, plain}
 use Rattle.facet_json_token.specs.Views.{mode_of}
-use Rattle.facet_json_document.specs.Language.{lenient, strict}
-use Rattle.facet_json_document.specs.Node.{Node}
-use Rattle.facet_json_document.specs.Tree.{Tree}
-use Rattle.facet_json_document.specs.Document.{IsDocument}
-use Rattle.facet_json_document.specs.StrictDocument.{IsStrictDocument, IsStrict}
+use Rattle.facet_json_grammar.specs.Language.{lenient, strict}
+use Rattle.facet_json_grammar.specs.Node.{Node}
+use Rattle.facet_json_grammar.specs.Tree.{Tree}
+use Rattle.facet_json_grammar.specs.Document.{IsDocument}
+use Rattle.facet_json_grammar.specs.StrictDocument.{IsStrictDocument, IsStrict}
 use Rattle.facet_json_reader.specs.declared.language.Language.{Language}
 use Rattle.facet_json_reader.specs.declared.language.Language.TheVariants.{Lenient, Strict}
-use Rattle.facet_json_document.specs.Now.{Now, fresh, fresh_in}
+use Rattle.facet_json_grammar.specs.Now.{Now, fresh, fresh_in}
 use Rattle.facet_json_serializer.specs.Serializer.{Writing}
 use Rattle.facet_json_serializer.specs.TreeCalls.{with_tree}
 use Rattle.facet_json_command.specs.declared.outcome.Outcome.{Outcome}

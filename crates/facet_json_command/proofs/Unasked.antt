@@ -3,7 +3,7 @@ use Rattle.std.proofs.Common.{◌≡◌, ℕ, List, [], Option, Some, None, IfSo
 use Rattle.facet_json_command.specs.Arguments.{Command, fmt, events, tokens, drive}
 use Rattle.facet_json_command.specs.declared.outcome.Outcome.{Outcome}
 use Rattle.facet_json_command.specs.declared.outcome.Outcome.TheVariants.{Done, Refused}
-use Rattle.facet_json_document.specs.Language.{Language}
+use Rattle.facet_json_grammar.specs.Language.{Language}
 use Rattle.facet_json_command.specs.Run.{AnswersInput, HasDocumentIn}
 use Rattle.facet_json_command.specs.Outcome.{IsFailure}
 use Rattle.facet_json_command.proofs.Printing.{appends_nothing}

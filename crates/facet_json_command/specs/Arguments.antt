@@ -2,7 +2,7 @@
 use Rattle.std.specs.Prelude.{◌≡◌, ◌≢◌, ℕ, Bool, true, false, List, [], ◌∷◌, codes}
 use Rattle.facet_format.specs.Cursor.{Call}
 use Rattle.facet_json_token.specs.Gap.{Mode, plain, jsonc}
-use Rattle.facet_json_document.specs.Language.{Language, lenient, strict}
+use Rattle.facet_json_grammar.specs.Language.{Language, lenient, strict}
 use Rattle.facet_json_command.specs.Script.{IsScript}
 
 -- what the program can be asked to do

@@ -9,8 +9,8 @@ use Rattle.facet_format.specs.Event as event
 use Rattle.facet_format.specs.Event.{Scalar, EventKind, Event, bytes_of}
 use Rattle.facet_format.specs.Cursor as answer
 use Rattle.facet_format.specs.Cursor.{Answer}
-use Rattle.facet_json_document.specs.Text.{bool_text}
-use Rattle.facet_json_document.specs.Quoted.{quoted}
+use Rattle.facet_json_grammar.specs.Text.{bool_text}
+use Rattle.facet_json_grammar.specs.Quoted.{quoted}
 
 -- a line of a name and of where it stands, as `StructEnd 7+1`
 abbrev pub place_line : List ℕ → Span → List ℕ

@@ -5,7 +5,7 @@ use Rattle.std.specs.declared.string.String.{String}
 use Rattle.std.specs.declared.alloc.Global.{Global}
 use Rattle.facet_json_token.specs.Gap.{plain}
 use Rattle.facet_json_token.specs.Views.{mode_of}
-use Rattle.facet_json_document.specs.Language.{Language, lenient, strict}
+use Rattle.facet_json_grammar.specs.Language.{Language, lenient, strict}
 use Rattle.facet_json_reader.specs.declared.language.Language.{Language as RustLanguage}
 use Rattle.facet_json_reader.specs.declared.language.Language.TheVariants as languages
 use Rattle.facet_json_core.specs.ScriptViews.{call_of}

@@ -6,18 +6,18 @@ use Rattle.std.specs.Io.KnownBytes.{Appends}
 use Rattle.facet_format.specs.declared.span.Span.{Span}
 use Rattle.facet_json_token.specs.Gap.{Mode}
 use Rattle.facet_json_token.specs.Tokens.{Tokens, AreCuts}
-use Rattle.facet_json_document.specs.Language.{Language, lenient, strict}
-use Rattle.facet_json_document.specs.Node.{Node}
-use Rattle.facet_json_document.specs.Tree.{Tree}
-use Rattle.facet_json_document.specs.Document.{IsDocument}
-use Rattle.facet_json_document.specs.StrictDocument.{IsStrictDocument, IsStrict}
+use Rattle.facet_json_grammar.specs.Language.{Language, lenient, strict}
+use Rattle.facet_json_grammar.specs.Node.{Node}
+use Rattle.facet_json_grammar.specs.Tree.{Tree}
+use Rattle.facet_json_grammar.specs.Document.{IsDocument}
+use Rattle.facet_json_grammar.specs.StrictDocument.{IsStrictDocument, IsStrict}
 use Rattle.facet_format.specs.Complaint.{Refusal, code_of}
-use Rattle.facet_json_document.specs.PrefixRefusal.{Refuses}
-use Rattle.facet_json_document.specs.Now.{Now, fresh_in}
-use Rattle.facet_json_document.specs.Move.{MovesAll}
+use Rattle.facet_json_grammar.specs.PrefixRefusal.{Refuses}
+use Rattle.facet_json_grammar.specs.Now.{Now, fresh_in}
+use Rattle.facet_json_grammar.specs.Move.{MovesAll}
 use Rattle.facet_format.specs.Event.{Event}
 use Rattle.facet_format.specs.Cursor.{Call, next, Answer, event}
-use Rattle.facet_json_document.specs.Text.{Options, default_options, text}
+use Rattle.facet_json_grammar.specs.Text.{Options, default_options, text}
 use Rattle.facet_format.specs.Views.{span_of}
 use Rattle.facet_json_command.specs.Arguments.{Command, fmt, events, tokens, drive}
 use Rattle.facet_json_command.specs.Lines.{event_line, answer_lines}

@@ -3,7 +3,7 @@
 ghost use Rattle.std.specs.Prelude.{◌≡◌, ◌≢◌, ◌≤◌, ◌⊎◌, ℕ, Bool, true, false, List, [], ◌∷◌, ◌++◌, length, codes, None, IfOk, IfErr};
 ghost use Rattle.std.specs.Prelude.{MatchOption, MatchResult};
 ghost use Rattle.facet_json_token.specs.Gap.{plain};
-ghost use Rattle.facet_json_document.specs.Language.{Language as SpecLanguage, lenient};
+ghost use Rattle.facet_json_grammar.specs.Language.{Language as SpecLanguage, lenient};
 ghost use Rattle.facet_json_command.specs.declared.outcome.Outcome.TheVariants as outcome;
 ghost use Rattle.facet_json_command.specs.Arguments.{AreWords, AskFor, AskForNothing};
 ghost use Rattle.facet_json_command.specs.OutcomeViews.{words_of, read_as, command_view, operands_of};

@@ -8,12 +8,12 @@ use Rattle.facet_json_core.specs.declared.script.Answer.{Answer}
 use Rattle.facet_format.specs.Cursor as cursor
 use Rattle.facet_format.specs.Part.{Source}
 use Rattle.facet_format.specs.Cursor.{on_walk, Cursor, Run}
-use Rattle.facet_json_document.specs.Now.{Now, StandsAt}
-use Rattle.facet_json_document.specs.Move.{Moves, MovesAll}
-use Rattle.facet_json_document.specs.Within.{AnswerWithin}
+use Rattle.facet_json_grammar.specs.Now.{Now, StandsAt}
+use Rattle.facet_json_grammar.specs.Move.{Moves, MovesAll}
+use Rattle.facet_json_grammar.specs.Within.{AnswerWithin}
 use Rattle.facet_json_core.specs.ScriptViews.{call_of, answer_of}
-use Rattle.facet_json_document.proofs.MoveIsStep.{moves-run}
-use Rattle.facet_json_document.proofs.MoveLaws.{moves-one_more}
+use Rattle.facet_json_grammar.proofs.MoveIsStep.{moves-run}
+use Rattle.facet_json_grammar.proofs.MoveLaws.{moves-one_more}
 
 take-next : (calls : List Call) (i : ℕ) (d : Call) → i < length calls → take (suc i) calls ≡ take i calls ++ get_or calls i d ∷ []
 take-next [] i d h = absurd (omega (arith, h))

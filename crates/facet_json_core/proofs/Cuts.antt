@@ -3,10 +3,10 @@ use Rattle.std.proofs.Common.{Option, None, Some, refl}
 use Rattle.facet_format.specs.Event.{EventKind, null, sequence_end, struct_end, scalar, bytes_of, Passed}
 use Rattle.facet_format.specs.Span.{span_at}
 use Rattle.facet_json_token.specs.Tokens.{Tokens}
-use Rattle.facet_json_document.specs.Tree.{Tree, list, pairs, Trees, no_trees, tree, Pairs, no_pairs, pair}
-use Rattle.facet_json_document.specs.Tree as trees
-use Rattle.facet_json_document.specs.Place.{Place}
-use Rattle.facet_json_document.specs.Future.{Future, gives, stuck}
+use Rattle.facet_json_grammar.specs.Tree.{Tree, list, pairs, Trees, no_trees, tree, Pairs, no_pairs, pair}
+use Rattle.facet_json_grammar.specs.Tree as trees
+use Rattle.facet_json_grammar.specs.Place.{Place}
+use Rattle.facet_json_grammar.specs.Future.{Future, gives, stuck}
 use Rattle.facet_json_core.specs.Told.{Tells, a_scalar, a_list, an_object, TellsItems, no_item, one_item, TellsMembers, no_member, one_member, Breaks, at_once, in_list, in_object, BreaksItems, in_item, past_item, BreaksMembers, in_key, in_member, past_member}
 
 -- Where a future is stuck, and what might have come in its place: an event, and what comes after it.

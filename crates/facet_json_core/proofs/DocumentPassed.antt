@@ -1,13 +1,13 @@
 -- From the value at the root, passed or refused, to a document, in either mode.
 use Rattle.std.proofs.Common.{◌≡◌, ℕ, List, Some, Option, sym, subst}
 use Rattle.facet_json_token.specs.Gap.{Mode}
-use Rattle.facet_json_document.specs.Node.{Node}
-use Rattle.facet_json_document.specs.Tree.{Tree}
-use Rattle.facet_json_document.specs.Document.{IsDocument}
-use Rattle.facet_json_document.specs.Future.{Future, finished}
-use Rattle.facet_json_document.specs.Now.{fresh, future_of}
-use Rattle.facet_json_document.specs.EventLaws.{RootComes, document_comes, prefix_comes}
-use Rattle.facet_json_document.proofs.LongestPrefix.{input-comes}
+use Rattle.facet_json_grammar.specs.Node.{Node}
+use Rattle.facet_json_grammar.specs.Tree.{Tree}
+use Rattle.facet_json_grammar.specs.Document.{IsDocument}
+use Rattle.facet_json_grammar.specs.Future.{Future, finished}
+use Rattle.facet_json_grammar.specs.Now.{fresh, future_of}
+use Rattle.facet_json_grammar.specs.EventLaws.{RootComes, document_comes, prefix_comes}
+use Rattle.facet_json_grammar.proofs.LongestPrefix.{input-comes}
 use Rattle.facet_json_serializer.specs.Serializer.{Writing, out_of_memory}
 use Rattle.facet_json_serializer.specs.TreeCalls.{with_tree}
 use Rattle.facet_json_serializer.specs.Views as serializer

@@ -3,11 +3,11 @@ use Rattle.std.proofs.Common.{◌≡◌, ◌⊎◌, inl, inr, ℕ, List, true, f
 use Rattle.std.specs.Prelude.{codes}
 use Rattle.facet_format.specs.Complaint.{Refusal}
 use Rattle.facet_format.specs.Event.{Event, Passed}
-use Rattle.facet_json_document.specs.Future.{Future, gives}
-use Rattle.facet_json_document.specs.Place.{Place}
-use Rattle.facet_json_document.specs.Tree.{Tree}
-use Rattle.facet_json_document.specs.Next.{PassesNext}
-use Rattle.facet_json_document.specs.Now.{Now, future_of}
+use Rattle.facet_json_grammar.specs.Future.{Future, gives}
+use Rattle.facet_json_grammar.specs.Place.{Place}
+use Rattle.facet_json_grammar.specs.Tree.{Tree}
+use Rattle.facet_json_grammar.specs.Next.{PassesNext}
+use Rattle.facet_json_grammar.specs.Now.{Now, future_of}
 use Rattle.facet_json_token.specs.Tokens.{Tokens}
 use Rattle.facet_json_core.specs.Reading.{LacksMemory, GivesNone, IsValueUnread}
 use Rattle.facet_json_core.specs.Refusing.{mismatch_of}

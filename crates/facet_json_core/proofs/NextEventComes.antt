@@ -3,10 +3,10 @@ use Rattle.std.proofs.Common.{◌≡◌, None, refl, sym, ap}
 use Rattle.std.specs.Prelude.{Err}
 use Rattle.facet_format.specs.Complaint.{Refusal}
 use Rattle.facet_format.specs.Cursor.{Cursor, current_span, no_memory_at, next, Answer, event, Step, repeats, passes, passes_without_memory, passes_the_end, passes_nothing}
-use Rattle.facet_json_document.specs.Future.{Future, gives, finished, stuck}
-use Rattle.facet_json_document.specs.Reader.{Reader}
-use Rattle.facet_json_document.specs.Now.{Now, RefusedAt, on_input, future_of}
-use Rattle.facet_json_document.specs.Move.{Moves}
+use Rattle.facet_json_grammar.specs.Future.{Future, gives, finished, stuck}
+use Rattle.facet_json_grammar.specs.Reader.{Reader}
+use Rattle.facet_json_grammar.specs.Now.{Now, RefusedAt, on_input, future_of}
+use Rattle.facet_json_grammar.specs.Move.{Moves}
 use Rattle.facet_json_core.specs.Reading.{GivesNone, lacks_memory, is_stuck}
 
 -- Where no document goes on, what comes is that.

@@ -2,10 +2,10 @@
 use Rattle.std.proofs.Common.{◌≡◌, inl, inr, ℕ, List, [], ◌∷◌, Option, None, Some, Result, Ok, Err, refl, sym, ap, ◌∙◌, subst, append-nil, arith}
 use Rattle.facet_format.specs.Complaint.{Refusal}
 use Rattle.facet_format.specs.Event.{Passed}
-use Rattle.facet_json_document.specs.Tree.{Tree}
-use Rattle.facet_json_document.specs.Refusal.{IsStuck}
-use Rattle.facet_json_document.specs.Future.{Future, gives, finished, stuck}
-use Rattle.facet_json_document.specs.Now.{Now, future_of}
+use Rattle.facet_json_grammar.specs.Tree.{Tree}
+use Rattle.facet_json_grammar.specs.Refusal.{IsStuck}
+use Rattle.facet_json_grammar.specs.Future.{Future, gives, finished, stuck}
+use Rattle.facet_json_grammar.specs.Now.{Now, future_of}
 use Rattle.facet_format.specs.SerializerCall.{SerializerCall}
 use Rattle.facet_json_serializer.specs.Serializer.{Writing, Addition, Misfit, addition, appended, Appends, appends, refuses, runs_out, stays_out, out_of_memory}
 use Rattle.facet_json_serializer.specs.Serializer as serializer

@@ -4,12 +4,12 @@ use Rattle.std.proofs.Common.{◌≡◌, ℕ, List, refl, sym, ap, ◌∙◌, su
 use Rattle.facet_format.specs.Event.{Passed, array, object}
 use Rattle.facet_json_token.specs.Token.{Token}
 use Rattle.facet_json_token.specs.Tokens.{Tokens}
-use Rattle.facet_json_document.specs.Tree.{Tree}
-use Rattle.facet_json_document.specs.Place.{Place}
-use Rattle.facet_json_document.specs.Walk.{key_event, walk}
-use Rattle.facet_json_document.specs.Future.{gives, stuck, events_before, Stage, within, over}
-use Rattle.facet_json_document.specs.Begun.{Begun, nothing, whole, in_list, in_object, ListBegun, begins_item, past_item, ObjectBegun, no_key, key_alone, begins_member, past_member, BegunDocument}
-use Rattle.facet_json_document.proofs.WalkComes.{events_before-append}
+use Rattle.facet_json_grammar.specs.Tree.{Tree}
+use Rattle.facet_json_grammar.specs.Place.{Place}
+use Rattle.facet_json_grammar.specs.Walk.{key_event, walk}
+use Rattle.facet_json_grammar.specs.Future.{gives, stuck, events_before, Stage, within, over}
+use Rattle.facet_json_grammar.specs.Begun.{Begun, nothing, whole, in_list, in_object, ListBegun, begins_item, past_item, ObjectBegun, no_key, key_alone, begins_member, past_member, BegunDocument}
+use Rattle.facet_json_grammar.proofs.WalkComes.{events_before-append}
 use Rattle.facet_json_core.specs.Told.{Tells, Breaks, at_once, BreaksItems, BreaksMembers}
 use Rattle.facet_json_core.specs.Told as told
 use Rattle.facet_json_core.proofs.WalkTells.{walk-tells}

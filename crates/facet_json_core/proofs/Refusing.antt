@@ -7,11 +7,11 @@ use Rattle.facet_format.specs.Event.{Event}
 use Rattle.facet_format.specs.Span.{Span}
 use Rattle.facet_format.specs.Views.{answer_of_span, span_of as span_of_rust}
 use Rattle.facet_format.specs.declared.span.Span.{Span as RustSpan}
-use Rattle.facet_json_document.specs.CallLaws.{refusal_in}
-use Rattle.facet_json_document.specs.Move.{Moves}
-use Rattle.facet_json_document.specs.Next.{PassesNext, IsOver}
-use Rattle.facet_json_document.specs.Now.{Now, ahead, current_span_of, GoesOn}
-use Rattle.facet_json_document.proofs.RefusalRepeats.{refused-sticks}
+use Rattle.facet_json_grammar.specs.CallLaws.{refusal_in}
+use Rattle.facet_json_grammar.specs.Move.{Moves}
+use Rattle.facet_json_grammar.specs.Next.{PassesNext, IsOver}
+use Rattle.facet_json_grammar.specs.Now.{Now, ahead, current_span_of, GoesOn}
+use Rattle.facet_json_grammar.proofs.RefusalRepeats.{refused-sticks}
 use Rattle.facet_json_core.specs.Refusing.{is_own, IsAbout, LacksOrIsAbout, no_value_after, mismatch_of, ComesTo, IsSpanPassed, of_an_event, of_the_last_token, TellsRefusal, as_it_came, at_the_end, of_a_type, without_memory}
 
 -- ---- on the way

@@ -4,18 +4,18 @@ use Rattle.facet_format.specs.Complaint.{Refusal}
 use Rattle.facet_format.specs.Event.{Passed}
 use Rattle.facet_json_token.specs.Gap.{plain}
 use Rattle.facet_json_token.specs.Tokens.{Tokens}
-use Rattle.facet_json_document.specs.Future.{Future, gives, finished, events_before, behind_root}
-use Rattle.facet_json_document.specs.Language.{strict, strict_rules}
-use Rattle.facet_json_document.specs.Node.{Node}
-use Rattle.facet_json_document.specs.Place.{Place}
-use Rattle.facet_json_document.specs.StrictDocument.{IsStrictDocument, IsStrict}
-use Rattle.facet_json_document.specs.StrictTokens.{tokens_in}
-use Rattle.facet_json_document.specs.Tree.{Tree, Trees, Pairs}
-use Rattle.facet_json_document.proofs.WalkComes.{events_before-append}
-use Rattle.facet_json_document.specs.StrictLaws.{StrictRootComes, document_comes, no_document_comes}
-use Rattle.facet_json_document.proofs.StrictRoot.{no_end, strict_input-comes}
-use Rattle.facet_json_document.specs.Now.{fresh_in, future_of}
-use Rattle.facet_json_document.proofs.StrictAnswered.{strict-stands}
+use Rattle.facet_json_grammar.specs.Future.{Future, gives, finished, events_before, behind_root}
+use Rattle.facet_json_grammar.specs.Language.{strict, strict_rules}
+use Rattle.facet_json_grammar.specs.Node.{Node}
+use Rattle.facet_json_grammar.specs.Place.{Place}
+use Rattle.facet_json_grammar.specs.StrictDocument.{IsStrictDocument, IsStrict}
+use Rattle.facet_json_grammar.specs.StrictTokens.{tokens_in}
+use Rattle.facet_json_grammar.specs.Tree.{Tree, Trees, Pairs}
+use Rattle.facet_json_grammar.proofs.WalkComes.{events_before-append}
+use Rattle.facet_json_grammar.specs.StrictLaws.{StrictRootComes, document_comes, no_document_comes}
+use Rattle.facet_json_grammar.proofs.StrictRoot.{no_end, strict_input-comes}
+use Rattle.facet_json_grammar.specs.Now.{fresh_in, future_of}
+use Rattle.facet_json_grammar.proofs.StrictAnswered.{strict-stands}
 use Rattle.facet_json_serializer.specs.Serializer.{Writing}
 use Rattle.facet_json_serializer.specs.TreeCalls.{with_tree}
 use Rattle.facet_json_core.specs.Told.{Tells, a_scalar, a_list, an_object, TellsItems, no_item, one_item, TellsMembers, no_member, one_member, Breaks}

@@ -5,15 +5,15 @@ use Rattle.facet_format.specs.Event.{ContainerKind, object, array, struct_start,
 use Rattle.facet_json_token.specs.Token.{Kind, Token}
 use Rattle.facet_json_token.specs.Token as token
 use Rattle.facet_json_token.specs.Tokens.{Tokens, ended, refused, next}
-use Rattle.facet_json_document.specs.Future.{Future, gives, stuck, within, behind_root, after_value, is_meaningless, reads_by, reads_colon_by}
-use Rattle.facet_json_document.specs.Language.{Rules, lenient_rules, strict_rules}
-use Rattle.facet_json_document.specs.Meaning.{meaning_of}
-use Rattle.facet_json_document.specs.Node.{is_scalar, is_string}
-use Rattle.facet_json_document.specs.Place.{Place, root, before_key, after_key, after_colon, after_member, before_item, after_item, next_key, next_item, stops, names, value_turn, place_turn, goes_on, led}
-use Rattle.facet_json_document.specs.Refusal.{needs_meaning}
-use Rattle.facet_json_document.specs.Tree.{Tree, null, bool, list, pairs, Trees, no_trees, tree, Pairs, no_pairs, pair}
-use Rattle.facet_json_document.specs.Walk.{event_at, key_event, scalar_event}
-use Rattle.facet_json_document.proofs.WalkComes.{follows, reads-turn, turn-sensible, reads-meaningless, reads-ended, reads-refused, colon-ended, colon-refused, colon-missing, colon-stands}
+use Rattle.facet_json_grammar.specs.Future.{Future, gives, stuck, within, behind_root, after_value, is_meaningless, reads_by, reads_colon_by}
+use Rattle.facet_json_grammar.specs.Language.{Rules, lenient_rules, strict_rules}
+use Rattle.facet_json_grammar.specs.Meaning.{meaning_of}
+use Rattle.facet_json_grammar.specs.Node.{is_scalar, is_string}
+use Rattle.facet_json_grammar.specs.Place.{Place, root, before_key, after_key, after_colon, after_member, before_item, after_item, next_key, next_item, stops, names, value_turn, place_turn, goes_on, led}
+use Rattle.facet_json_grammar.specs.Refusal.{needs_meaning}
+use Rattle.facet_json_grammar.specs.Tree.{Tree, null, bool, list, pairs, Trees, no_trees, tree, Pairs, no_pairs, pair}
+use Rattle.facet_json_grammar.specs.Walk.{event_at, key_event, scalar_event}
+use Rattle.facet_json_grammar.proofs.WalkComes.{follows, reads-turn, turn-sensible, reads-meaningless, reads-ended, reads-refused, colon-ended, colon-refused, colon-missing, colon-stands}
 use Rattle.facet_json_core.specs.Told.{Tells, a_scalar, a_list, an_object, TellsItems, no_item, one_item, TellsMembers, no_member, one_member, Breaks, at_once, in_list, in_object, BreaksItems, in_item, past_item, BreaksMembers, in_key, in_member, past_member}
 use Rattle.facet_json_core.proofs.WalkTells.{scalar-told}
 

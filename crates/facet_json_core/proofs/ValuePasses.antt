@@ -2,11 +2,11 @@
 use Rattle.std.proofs.Common.{◌≡◌, ◌-◌, ℕ, suc, List, [], ◌∷◌, ◌++◌, Some, refl, sym, ap, ◌∙◌, append_assoc, subst, arith}
 use Rattle.facet_format.specs.Event as event
 use Rattle.facet_format.specs.Event.{EventKind, Scalar, null, unit, bool, char, i64, u64, i128, u128, decimal, text, bytes, borrowed, bytes_of, Passed}
-use Rattle.facet_json_document.specs.Text as texts
-use Rattle.facet_json_document.specs.Text.{Options}
-use Rattle.facet_json_document.specs.Tree.{Tree, Trees, Pairs}
-use Rattle.facet_json_document.specs.Tree as trees
-use Rattle.facet_json_document.specs.Future.{Future, gives}
+use Rattle.facet_json_grammar.specs.Text as texts
+use Rattle.facet_json_grammar.specs.Text.{Options}
+use Rattle.facet_json_grammar.specs.Tree.{Tree, Trees, Pairs}
+use Rattle.facet_json_grammar.specs.Tree as trees
+use Rattle.facet_json_grammar.specs.Future.{Future, gives}
 use Rattle.facet_format.specs.SerializerCall.{SerializerCall, begin_struct, field_key, end_struct, begin_seq, end_seq, scalar}
 use Rattle.facet_json_serializer.specs.Serializer.{Opened, addition}
 use Rattle.facet_json_serializer.specs.TreeCalls.{tree_calls, item_calls, member_calls}

@@ -8,15 +8,15 @@ use Rattle.facet_format.specs.NumberValue.{Number}
 use Rattle.facet_format.specs.NumberValue as numbers
 use Rattle.facet_json_token.specs.Token.{Kind, Token}
 use Rattle.facet_json_token.specs.Token as token
-use Rattle.facet_json_document.specs.Node.{Node, scalar, Nodes, no_nodes, item, Members, no_members, member}
-use Rattle.facet_json_document.specs.Node as node
-use Rattle.facet_json_document.specs.Tree.{Tree, Trees, no_trees, tree, Pairs, no_pairs, pair}
-use Rattle.facet_json_document.specs.Tree as trees
-use Rattle.facet_json_document.specs.Meaning.{tree_of_number, meaning_of, meaning, tree_of, trees_of, pairs_of, text_in_tree, put_item, put_pair}
-use Rattle.facet_json_document.specs.Walk.{text_by, scalar_by, scalar_of, name_of, event_at, scalar_event, key_event, walk, walk_items, walk_members}
-use Rattle.facet_json_document.specs.Future.{Future, gives, events_before}
-use Rattle.facet_json_document.proofs.WalkComes.{events_before-append}
-use Rattle.facet_json_document.proofs.TreesOfParts.{list_meant, object_meant, item_meant, member_meant}
+use Rattle.facet_json_grammar.specs.Node.{Node, scalar, Nodes, no_nodes, item, Members, no_members, member}
+use Rattle.facet_json_grammar.specs.Node as node
+use Rattle.facet_json_grammar.specs.Tree.{Tree, Trees, no_trees, tree, Pairs, no_pairs, pair}
+use Rattle.facet_json_grammar.specs.Tree as trees
+use Rattle.facet_json_grammar.specs.Meaning.{tree_of_number, meaning_of, meaning, tree_of, trees_of, pairs_of, text_in_tree, put_item, put_pair}
+use Rattle.facet_json_grammar.specs.Walk.{text_by, scalar_by, scalar_of, name_of, event_at, scalar_event, key_event, walk, walk_items, walk_members}
+use Rattle.facet_json_grammar.specs.Future.{Future, gives, events_before}
+use Rattle.facet_json_grammar.proofs.WalkComes.{events_before-append}
+use Rattle.facet_json_grammar.proofs.TreesOfParts.{list_meant, object_meant, item_meant, member_meant}
 use Rattle.facet_json_core.specs.Told.{tree_of_scalar, Tells, a_scalar, a_list, an_object, TellsItems, no_item, one_item, TellsMembers, no_member, one_member}
 
 -- ---- what the tokens of a buffer mean

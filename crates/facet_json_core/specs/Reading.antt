@@ -2,11 +2,11 @@
 use Rattle.std.specs.Prelude.{◌≡◌, ◌⊎◌, ℕ, List}
 use Rattle.facet_format.specs.Complaint.{Refusal, out_of_memory}
 use Rattle.facet_json_token.specs.Tokens.{Tokens}
-use Rattle.facet_json_document.specs.Place.{Place}
-use Rattle.facet_json_document.specs.Refusal.{IsStuck}
-use Rattle.facet_json_document.specs.Tree.{Tree}
-use Rattle.facet_json_document.specs.Future.{Future, finished, stuck}
-use Rattle.facet_json_document.specs.Now.{Now, future_of}
+use Rattle.facet_json_grammar.specs.Place.{Place}
+use Rattle.facet_json_grammar.specs.Refusal.{IsStuck}
+use Rattle.facet_json_grammar.specs.Tree.{Tree}
+use Rattle.facet_json_grammar.specs.Future.{Future, finished, stuck}
+use Rattle.facet_json_grammar.specs.Now.{Now, future_of}
 use Rattle.facet_json_core.specs.Told.{Tells, Breaks}
 
 -- ---- how a reader is refused

@@ -4,9 +4,9 @@ use Rattle.facet_format.specs.Complaint.{Complaint, unexpected_eof, invalid_valu
 use Rattle.facet_format.specs.Event.{Event, EventKind, Scalar}
 use Rattle.facet_format.specs.Event as event
 use Rattle.facet_format.specs.Span.{Span, stop, span_at}
-use Rattle.facet_json_document.specs.Future.{finished}
-use Rattle.facet_json_document.specs.Now.{Now, ahead, future_of, current_span_of, LeadsTo}
-use Rattle.facet_json_document.specs.Next.{PassesNext}
+use Rattle.facet_json_grammar.specs.Future.{finished}
+use Rattle.facet_json_grammar.specs.Now.{Now, ahead, future_of, current_span_of, LeadsTo}
+use Rattle.facet_json_grammar.specs.Next.{PassesNext}
 
 -- ---- what refusals say
 

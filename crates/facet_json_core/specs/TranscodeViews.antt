@@ -4,10 +4,10 @@ use Rattle.facet_format.specs.Event.{Event}
 use Rattle.facet_format.specs.Views.{refusal_of}
 use Rattle.facet_json_token.specs.Gap.{Mode}
 use Rattle.facet_json_token.specs.Tokens.{Tokens}
-use Rattle.facet_json_document.specs.Tree.{Tree}
-use Rattle.facet_json_document.specs.Place.{Place}
-use Rattle.facet_json_document.specs.Future.{Future}
-use Rattle.facet_json_document.specs.PrefixRefusal.{Refuses}
+use Rattle.facet_json_grammar.specs.Tree.{Tree}
+use Rattle.facet_json_grammar.specs.Place.{Place}
+use Rattle.facet_json_grammar.specs.Future.{Future}
+use Rattle.facet_json_grammar.specs.PrefixRefusal.{Refuses}
 use Rattle.facet_json_serializer.specs.Serializer.{out_of_memory}
 use Rattle.facet_json_serializer.specs.Views as serializer
 use Rattle.facet_json_core.specs.declared.error.JsonError.{JsonError}
@@ -15,7 +15,7 @@ use Rattle.facet_json_core.specs.declared.kind.JsonErrorKind.TheVariants as kind
 use Rattle.facet_json_core.specs.ErrorViews.{error_at}
 use Rattle.facet_json_core.specs.declared.transcode_error.TranscodeError.{TranscodeError}
 use Rattle.facet_json_core.specs.declared.transcode_error.TranscodeError.TheVariants.{Read, Write}
-use Rattle.facet_json_document.specs.Now.{Now}
+use Rattle.facet_json_grammar.specs.Now.{Now}
 use Rattle.facet_json_core.specs.Refusing.{mismatch_of, TellsRefusal}
 use Rattle.facet_json_core.specs.Told.{Tells, Breaks}
 use Rattle.facet_json_core.specs.Reading as reading

@@ -4,7 +4,7 @@
 mod meaning;
 mod trust;
 
-pub use facet_json_document::laws::{
+pub use facet_json_grammar::laws::{
     alone_is_given, begun_is_prefix, capture_passes_run, ends_in_time, ends_in_time_in, headline,
     input_comes, move_is_step, moves_agree, new_stands, no_run_breaks_off, numbers_are_new,
     one_break, one_document, one_given, one_part, one_run, one_spelling, parts_on_walk,

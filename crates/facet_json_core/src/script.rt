@@ -4,9 +4,9 @@ ghost use Rattle.std.specs.Prelude.{◌≡◌, ◌+◌, ◌≤◌, ℕ, List, le
 ghost use Rattle.std.specs.List.{All};
 ghost use Rattle.facet_format.specs.Part.{Source};
 ghost use Rattle.facet_format.specs.Cursor.{on_walk, Cursor, Run};
-ghost use Rattle.facet_json_document.specs.Now.{StandsAt, SameInput};
-ghost use Rattle.facet_json_document.specs.Move.{Moves, MovesAll};
-ghost use Rattle.facet_json_document.specs.Within.{AnswerWithin};
+ghost use Rattle.facet_json_grammar.specs.Now.{StandsAt, SameInput};
+ghost use Rattle.facet_json_grammar.specs.Move.{Moves, MovesAll};
+ghost use Rattle.facet_json_grammar.specs.Within.{AnswerWithin};
 ghost use Rattle.facet_json_core.specs.ScriptViews.{call_of, answer_of};
 
 use facet_format::{FormatParser, ParseError, ParseEvent, SavePoint, Span};

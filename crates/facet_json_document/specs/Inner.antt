@@ -1,2 +1,6 @@
--- Definitions that serve private contracts and rows alone.
-pub mod PassedRun
+-- Definitions that serve private contracts alone.
+pub mod Building
+pub mod Checking
+pub mod Held
+pub mod Layout
+pub mod Looking

@@ -1,6 +1,15 @@
-//! What JSON documents are (RFC 8259, sections 2 to 7), lenient and strict ones: the values that tokens spell and their events; what begins
-//! a document, and how an input is refused; what a parser is as a value, and each call's move of it; how text is written, and that it is
-//! readable. The definitions stand in `specs/`; `laws` has what shows them right, for any parser whose calls are such moves.
+//! Whether an input has a document, of which nothing is kept; an input read into a list of nodes; and a text laid out anew with its
+//! comments.
 #![tactic(auto)]
 
-pub mod laws;
+mod checking;
+mod document;
+mod formatting;
+mod layout;
+mod pieces;
+mod spacing;
+
+pub use checking::{check, check_jsonc, check_strict, check_whole};
+pub use document::{Document, Items, Members, Value, ValueKind};
+pub use formatting::{FormatOptions, format_text, format_text_strict};
+pub use spacing::Indent;

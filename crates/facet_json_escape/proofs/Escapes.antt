@@ -6,7 +6,7 @@ use Rattle.std.proofs.lemmas.List.{drop_more, drop-drop, take_more, flat_map_mor
 use Rattle.std.proofs.lemmas.List.Edits.{between_more, between_none}
 use Rattle.std.specs.List.{flat_map, prefix_len, slice_range}
 use Rattle.facet_format.specs.Bytes.{quote, backslash, backspace, form_feed, line_feed, carriage_return, tab, space, delete}
-use Rattle.facet_json_document.specs.Quoted.{escaped, hex_byte}
+use Rattle.facet_json_grammar.specs.Quoted.{escaped, hex_byte}
 use Rattle.facet_json_escape.specs.Inner.Window.{needs_escape, needs_no_escape}
 
 -- where no escape of two characters stands for the byte

@@ -6,7 +6,7 @@ use Rattle.std.proofs.lemmas.List.Sums.{prefix_len-le-length}
 use Rattle.std.specs.Bool.{OnTrue}
 use Rattle.std.specs.List.{flat_map, prefix_len}
 use lib.Lanes.{chunk, mask_l, zip2, top}
-use Rattle.facet_json_document.specs.Quoted.{escaped}
+use Rattle.facet_json_grammar.specs.Quoted.{escaped}
 use Rattle.facet_format.proofs.Lanes.{equal, below, either, masked}
 use Rattle.facet_json_escape.specs.Inner.Window.{needs_escape, needs_no_escape, PlainBetween}
 use Rattle.facet_json_escape.proofs.Escapes.{plain_escape}

@@ -5,8 +5,8 @@ ghost use Rattle.std.specs.Bool.{OnTrue};
 ghost use Rattle.std.specs.List.{flat_map, prefix_len};
 ghost use Rattle.std.specs.Simd.Lanes.{mask_l};
 ghost use Rattle.facet_format.specs.Bytes.{comma, colon, quote};
-ghost use Rattle.facet_json_document.specs.Quoted.{escaped, quoted, hex_byte};
-ghost use Rattle.facet_json_document.specs.Quoted as spelled;
+ghost use Rattle.facet_json_grammar.specs.Quoted.{escaped, quoted, hex_byte};
+ghost use Rattle.facet_json_grammar.specs.Quoted as spelled;
 ghost use Rattle.facet_json_escape.specs.Inner.Window as window;
 
 use crate::sink::Sink;
@@ -179,7 +179,7 @@ fn needs_escape(byte: u8) -> bool
 
 /// Appends what stands between the quotes for one byte of a text in UTF-8 (RFC 8259, section 7): an escape of an ASCII character, or
 /// the byte.
-#[tactic(auto, using(crate::proofs::Escapes::long_escape), unfolding(facet_json_document::specs::Quoted::escaped))]
+#[tactic(auto, using(crate::proofs::Escapes::long_escape), unfolding(facet_json_grammar::specs::Quoted::escaped))]
 fn push_escaped(out: &mut Sink, byte: u8) -> Result<(), AllocError>
     ensures { OnOk result (out.new ≡ out.old ++ escaped byte) }
 {

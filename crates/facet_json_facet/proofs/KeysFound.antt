@@ -9,12 +9,12 @@ use Rattle.facet_format.specs.Event.{Event, Passed, object, struct_end}
 use Rattle.facet_format.specs.Kept.{found}
 use Rattle.facet_format.specs.Part.{Source}
 use Rattle.facet_json_token.specs.Token.{Token}
-use Rattle.facet_json_document.specs.Meaning.{pairs_of, text_in_tree, meaning}
-use Rattle.facet_json_document.specs.Node.{Node, scalar, Members, member}
-use Rattle.facet_json_document.specs.Now.{Now, GoesOn}
-use Rattle.facet_json_document.specs.Tree.{Pairs}
-use Rattle.facet_json_document.specs.Walk.{walk, walk_members, event_at, key_event}
-use Rattle.facet_json_document.proofs.TreesOfParts.{member_meant}
+use Rattle.facet_json_grammar.specs.Meaning.{pairs_of, text_in_tree, meaning}
+use Rattle.facet_json_grammar.specs.Node.{Node, scalar, Members, member}
+use Rattle.facet_json_grammar.specs.Now.{Now, GoesOn}
+use Rattle.facet_json_grammar.specs.Tree.{Pairs}
+use Rattle.facet_json_grammar.specs.Walk.{walk, walk_members, event_at, key_event}
+use Rattle.facet_json_grammar.proofs.TreesOfParts.{member_meant}
 use Rattle.facet_json_core.specs.Meaning.Nodes.{StandsBefore, KeepsOn}
 use Rattle.facet_json_core.specs.Meaning.Objects.{PassesKey, LacksKey}
 use Rattle.facet_json_core.specs.Meaning.OneValue.{IsInside, PassesValue, PassesKeyInside}

@@ -5,7 +5,7 @@ use Rattle.std.specs.Result.{OnOk, OnErr, IfErr}
 use Rattle.std.proofs.lemmas.List.{append_assoc, drop_all, drop_more}
 use Rattle.std.proofs.lemmas.List.Elements.{All-nil, All-cons}
 use Rattle.facet_format.specs.SerializerCall.{begin_seq, end_seq}
-use Rattle.facet_json_document.specs.Tree.{Tree, list}
+use Rattle.facet_json_grammar.specs.Tree.{Tree, list}
 use Rattle.facet_json_serializer.specs.declared.error.JsonSerializeError.{JsonSerializeError}
 use Rattle.facet_json_serializer.specs.Serializer.{Writing, out_of_memory, Appends}
 use Rattle.facet_json_serializer.specs.TreeCalls.{tree_calls, item_calls}

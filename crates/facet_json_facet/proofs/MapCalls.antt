@@ -6,7 +6,7 @@ use Rattle.std.specs.declared.string.String.{String}
 use Rattle.std.proofs.lemmas.List.Elements.{All-nil, All-cons}
 use Rattle.std.proofs.lemmas.Str.{is_utf8-from_IsUtf8, IsUtf8-string_bytes}
 use Rattle.facet_format.specs.SerializerCall.{begin_struct, field_key, end_struct}
-use Rattle.facet_json_document.specs.Tree.{Tree, pairs, Pairs}
+use Rattle.facet_json_grammar.specs.Tree.{Tree, pairs, Pairs}
 use Rattle.facet_json_core.specs.Meaning.Maps.{seen_entries, pairs_of_entries}
 use Rattle.facet_json_serializer.specs.Serializer.{Writing, Appends}
 use Rattle.facet_json_serializer.specs.TreeCalls.{tree_calls, member_calls}

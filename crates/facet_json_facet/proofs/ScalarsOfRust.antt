@@ -2,8 +2,8 @@
 use Rattle.std.proofs.Common.{◌≡◌, ◌<◌, ◌^◌, ℕ, Bool, true, List, ℤ, Result, Ok, Err}
 use Rattle.std.specs.Result.{OnOk}
 use Rattle.std.specs.Str.{is_utf8}
-use Rattle.facet_json_document.specs.Tree.{null, bool, text, i128, u128, raw}
-use Rattle.facet_json_document.specs.AsRead.{FitsBits, WellFormed, RawParts}
+use Rattle.facet_json_grammar.specs.Tree.{null, bool, text, i128, u128, raw}
+use Rattle.facet_json_grammar.specs.AsRead.{FitsBits, WellFormed, RawParts}
 use Rattle.facet_json_tree.specs.Write.{IsOfRust}
 
 -- what holds whatever was answered

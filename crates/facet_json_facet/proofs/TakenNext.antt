@@ -3,7 +3,7 @@ use Rattle.std.proofs.Common.{◌≡◌, Option, Some, None, Ok, refl, arith}
 use Rattle.std.specs.Prelude.{MatchOption}
 use Rattle.facet_format.specs.Cursor.{event}
 use Rattle.facet_format.specs.Event.{Event}
-use Rattle.facet_json_document.specs.Now.{Now, GoesOn}
+use Rattle.facet_json_grammar.specs.Now.{Now, GoesOn}
 use Rattle.facet_json_parser.specs.Inner.Wanted.{PassesWanted}
 use Rattle.facet_json_core.proofs.Meaning.OneValue.EventsPassed.{next-passes_by_kind}
 use Rattle.facet_json_core.proofs.Meaning.Walks.NextOnWalk.{answer-walks}

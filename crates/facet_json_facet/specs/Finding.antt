@@ -7,12 +7,12 @@ use Rattle.facet_format.specs.Event.{Event, Passed, struct_end}
 use Rattle.facet_format.specs.Kept.{found}
 use Rattle.facet_format.specs.Part.{Source}
 use Rattle.facet_json_token.specs.Token.{Token}
-use Rattle.facet_json_document.specs.Meaning.{pairs_of, text_in_tree, meaning}
-use Rattle.facet_json_document.specs.Next.{PassesNext}
-use Rattle.facet_json_document.specs.Node.{Node, Members, no_members, member}
-use Rattle.facet_json_document.specs.Now.{Now, StandsAt}
-use Rattle.facet_json_document.specs.Tree.{Pairs}
-use Rattle.facet_json_document.specs.Walk.{walk_members, event_at}
+use Rattle.facet_json_grammar.specs.Meaning.{pairs_of, text_in_tree, meaning}
+use Rattle.facet_json_grammar.specs.Next.{PassesNext}
+use Rattle.facet_json_grammar.specs.Node.{Node, Members, no_members, member}
+use Rattle.facet_json_grammar.specs.Now.{Now, StandsAt}
+use Rattle.facet_json_grammar.specs.Tree.{Pairs}
+use Rattle.facet_json_grammar.specs.Walk.{walk_members, event_at}
 use Rattle.facet_json_core.specs.Reading.{LacksMemory}
 use Rattle.facet_json_core.specs.Meaning.Nodes.{StandsBefore}
 use Rattle.facet_json_core.specs.Meaning.Objects.{key_or_end}

@@ -22,7 +22,7 @@ pub(crate) trait Leaf: Sized + Drop {
     ghost use Rattle.std.specs.Prelude.{Option};
     ghost use Rattle.facet_format.specs.Complaint.{Refusal};
     ghost use Rattle.facet_format.specs.Event.{Event};
-    ghost use Rattle.facet_json_document.specs.Tree.{Tree};
+    ghost use Rattle.facet_json_grammar.specs.Tree.{Tree};
     ghost use Rattle.facet_json_core.specs.Refusing.{LacksOrIsAbout};
     ghost use Rattle.facet_json_core.specs.Meaning.Laws.{ReadsBack};
     ghost use Rattle.facet_json_core.specs.Meaning.Readings.{leaf};

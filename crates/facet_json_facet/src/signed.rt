@@ -6,8 +6,8 @@ use facet_format::ScalarValue;
 impl Number for i8 {
     ghost use Rattle.std.specs.Prelude.{codes, FitsSigned};
     ghost use Rattle.std.specs.Int.{w8, w64};
-    ghost use Rattle.facet_json_document.specs.Tree.{i64 as i64_tree};
-    ghost use Rattle.facet_json_document.specs.AsRead.{FitsBits};
+    ghost use Rattle.facet_json_grammar.specs.Tree.{i64 as i64_tree};
+    ghost use Rattle.facet_json_grammar.specs.AsRead.{FitsBits};
     ghost use Rattle.facet_json_tree.proofs.OfRust.{fits-within};
     ghost use Rattle.facet_json_core.specs.Meaning.Readings.{signed_in};
     ghost use Rattle.facet_json_core.proofs.Meaning.Leaves.WholeNumbers.{i8-reads_back};
@@ -45,8 +45,8 @@ impl Number for i8 {
 impl Number for i16 {
     ghost use Rattle.std.specs.Prelude.{codes, FitsSigned};
     ghost use Rattle.std.specs.Int.{w16, w64};
-    ghost use Rattle.facet_json_document.specs.Tree.{i64 as i64_tree};
-    ghost use Rattle.facet_json_document.specs.AsRead.{FitsBits};
+    ghost use Rattle.facet_json_grammar.specs.Tree.{i64 as i64_tree};
+    ghost use Rattle.facet_json_grammar.specs.AsRead.{FitsBits};
     ghost use Rattle.facet_json_tree.proofs.OfRust.{fits-within};
     ghost use Rattle.facet_json_core.specs.Meaning.Readings.{signed_in};
     ghost use Rattle.facet_json_core.proofs.Meaning.Leaves.WholeNumbers.{i16-reads_back};
@@ -84,8 +84,8 @@ impl Number for i16 {
 impl Number for i32 {
     ghost use Rattle.std.specs.Prelude.{codes, FitsSigned};
     ghost use Rattle.std.specs.Int.{w32, w64};
-    ghost use Rattle.facet_json_document.specs.Tree.{i64 as i64_tree};
-    ghost use Rattle.facet_json_document.specs.AsRead.{FitsBits};
+    ghost use Rattle.facet_json_grammar.specs.Tree.{i64 as i64_tree};
+    ghost use Rattle.facet_json_grammar.specs.AsRead.{FitsBits};
     ghost use Rattle.facet_json_tree.proofs.OfRust.{fits-within};
     ghost use Rattle.facet_json_core.specs.Meaning.Readings.{signed_in};
     ghost use Rattle.facet_json_core.proofs.Meaning.Leaves.WholeNumbers.{i32-reads_back};
@@ -123,8 +123,8 @@ impl Number for i32 {
 impl Number for i64 {
     ghost use Rattle.std.specs.Prelude.{codes, FitsSigned};
     ghost use Rattle.std.specs.Int.{w64};
-    ghost use Rattle.facet_json_document.specs.Tree.{i64 as i64_tree};
-    ghost use Rattle.facet_json_document.specs.AsRead.{FitsBits};
+    ghost use Rattle.facet_json_grammar.specs.Tree.{i64 as i64_tree};
+    ghost use Rattle.facet_json_grammar.specs.AsRead.{FitsBits};
     ghost use Rattle.facet_json_tree.proofs.OfRust.{fits-within};
     ghost use Rattle.facet_json_core.specs.Meaning.Readings.{signed_in};
     ghost use Rattle.facet_json_core.proofs.Meaning.Leaves.WholeNumbers.{i64-reads_back};
@@ -162,8 +162,8 @@ impl Number for i64 {
 impl Number for isize {
     ghost use Rattle.std.specs.Prelude.{codes, FitsSigned};
     ghost use Rattle.std.specs.Int.{w64};
-    ghost use Rattle.facet_json_document.specs.Tree.{i64 as i64_tree};
-    ghost use Rattle.facet_json_document.specs.AsRead.{FitsBits};
+    ghost use Rattle.facet_json_grammar.specs.Tree.{i64 as i64_tree};
+    ghost use Rattle.facet_json_grammar.specs.AsRead.{FitsBits};
     ghost use Rattle.facet_json_tree.proofs.OfRust.{fits-within};
     ghost use Rattle.facet_json_core.specs.Meaning.Readings.{signed_in};
     ghost use Rattle.facet_json_core.proofs.Meaning.Leaves.WholeNumbers.{i64-reads_back};

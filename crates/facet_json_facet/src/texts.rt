@@ -24,7 +24,7 @@ impl Leaf for String {
     ghost use Rattle.std.specs.Prelude.{◌≡◌, ◌⊎◌, ℕ, List, true, codes, string_bytes};
     ghost use Rattle.std.specs.Str.{is_utf8};
     ghost use Rattle.facet_format.specs.Complaint.{no_memory};
-    ghost use Rattle.facet_json_document.specs.Tree.{text as text_tree};
+    ghost use Rattle.facet_json_grammar.specs.Tree.{text as text_tree};
     ghost use Rattle.facet_json_core.specs.Refusing.{mismatch_of};
     ghost use Rattle.facet_json_core.proofs.Refusing.{lacks-about};
     ghost use Rattle.facet_json_core.specs.Meaning.Readings.{text_of_tree};

@@ -18,7 +18,7 @@ use std::alloc::Global;
 /// Reading recurses once for each list or object within another.
 impl<'de> Facet<'de> for Tree {
     ghost use Rattle.std.specs.Prelude.{true};
-    ghost use Rattle.facet_json_document.specs.Tree.{Tree as SpecTree};
+    ghost use Rattle.facet_json_grammar.specs.Tree.{Tree as SpecTree};
     ghost use Rattle.facet_json_core.specs.Meaning.Types.{any};
     ghost use Rattle.facet_json_core.proofs.Meaning.TypeLaws.{any-laws};
     ghost use Rattle.facet_json_tree.specs.Views.{tree_view};

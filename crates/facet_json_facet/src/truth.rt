@@ -10,7 +10,7 @@ use std::alloc::Global;
 impl Leaf for bool {
     ghost use Rattle.std.specs.Prelude.{◌≡◌, Bool, codes};
     ghost use Rattle.std.proofs.Common.{inr};
-    ghost use Rattle.facet_json_document.specs.Tree.{bool as bool_tree};
+    ghost use Rattle.facet_json_grammar.specs.Tree.{bool as bool_tree};
     ghost use Rattle.facet_json_core.specs.Refusing.{mismatch_of};
     ghost use Rattle.facet_json_core.proofs.Refusing.{mismatch-about};
     ghost use Rattle.facet_json_core.specs.Meaning.Readings.{bool_of};

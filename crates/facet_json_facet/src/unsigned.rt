@@ -6,7 +6,7 @@ use facet_format::ScalarValue;
 impl Number for u8 {
     ghost use Rattle.std.specs.Prelude.{codes, ◌<◌, ◌^◌};
     ghost use Rattle.std.specs.Int.{w8};
-    ghost use Rattle.facet_json_document.specs.Tree.{u64 as u64_tree};
+    ghost use Rattle.facet_json_grammar.specs.Tree.{u64 as u64_tree};
     ghost use Rattle.facet_json_core.specs.Meaning.Readings.{unsigned_in};
     ghost use Rattle.facet_json_core.proofs.Meaning.Leaves.WholeNumbers.{u8-reads_back};
     ghost use Rattle.facet_json_facet.specs.Inner.NumberLaws.{unsigned-tries, unsigned-of_rust};
@@ -43,7 +43,7 @@ impl Number for u8 {
 impl Number for u16 {
     ghost use Rattle.std.specs.Prelude.{codes, ◌<◌, ◌^◌};
     ghost use Rattle.std.specs.Int.{w16};
-    ghost use Rattle.facet_json_document.specs.Tree.{u64 as u64_tree};
+    ghost use Rattle.facet_json_grammar.specs.Tree.{u64 as u64_tree};
     ghost use Rattle.facet_json_core.specs.Meaning.Readings.{unsigned_in};
     ghost use Rattle.facet_json_core.proofs.Meaning.Leaves.WholeNumbers.{u16-reads_back};
     ghost use Rattle.facet_json_facet.specs.Inner.NumberLaws.{unsigned-tries, unsigned-of_rust};
@@ -80,7 +80,7 @@ impl Number for u16 {
 impl Number for u32 {
     ghost use Rattle.std.specs.Prelude.{codes, ◌<◌, ◌^◌};
     ghost use Rattle.std.specs.Int.{w32};
-    ghost use Rattle.facet_json_document.specs.Tree.{u64 as u64_tree};
+    ghost use Rattle.facet_json_grammar.specs.Tree.{u64 as u64_tree};
     ghost use Rattle.facet_json_core.specs.Meaning.Readings.{unsigned_in};
     ghost use Rattle.facet_json_core.proofs.Meaning.Leaves.WholeNumbers.{u32-reads_back};
     ghost use Rattle.facet_json_facet.specs.Inner.NumberLaws.{unsigned-tries, unsigned-of_rust};
@@ -117,7 +117,7 @@ impl Number for u32 {
 impl Number for u64 {
     ghost use Rattle.std.specs.Prelude.{codes, ◌<◌, ◌^◌};
     ghost use Rattle.std.specs.Int.{w64};
-    ghost use Rattle.facet_json_document.specs.Tree.{u64 as u64_tree};
+    ghost use Rattle.facet_json_grammar.specs.Tree.{u64 as u64_tree};
     ghost use Rattle.facet_json_core.specs.Meaning.Readings.{unsigned_in};
     ghost use Rattle.facet_json_core.proofs.Meaning.Leaves.WholeNumbers.{u64-reads_back};
     ghost use Rattle.facet_json_facet.specs.Inner.NumberLaws.{unsigned-tries, unsigned-of_rust};
@@ -154,7 +154,7 @@ impl Number for u64 {
 impl Number for usize {
     ghost use Rattle.std.specs.Prelude.{codes, ◌<◌, ◌^◌};
     ghost use Rattle.std.specs.Int.{w64};
-    ghost use Rattle.facet_json_document.specs.Tree.{u64 as u64_tree};
+    ghost use Rattle.facet_json_grammar.specs.Tree.{u64 as u64_tree};
     ghost use Rattle.facet_json_core.specs.Meaning.Readings.{unsigned_in};
     ghost use Rattle.facet_json_core.proofs.Meaning.Leaves.WholeNumbers.{u64-reads_back};
     ghost use Rattle.facet_json_facet.specs.Inner.NumberLaws.{unsigned-tries, unsigned-of_rust};

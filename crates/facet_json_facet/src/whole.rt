@@ -22,7 +22,7 @@ use std::num::TryFromIntError;
 pub(crate) trait Number: TryFrom<i128, Error = TryFromIntError> + Drop {
     ghost use Rattle.std.specs.Prelude.{◌≡◌, ℕ, List, ℤ, Option, Some, None, Result, IfOk, IfErr};
     ghost use Rattle.std.specs.Option.{option_and_then};
-    ghost use Rattle.facet_json_document.specs.Tree.{Tree};
+    ghost use Rattle.facet_json_grammar.specs.Tree.{Tree};
     ghost use Rattle.facet_json_tree.specs.Write.{IsOfRust};
     ghost use Rattle.facet_json_core.specs.Meaning.Laws.{ReadsBack};
     ghost use Rattle.facet_json_core.specs.Meaning.Readings.{leaf, whole_of};

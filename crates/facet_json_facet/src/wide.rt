@@ -14,7 +14,7 @@ impl Leaf for u128 {
     ghost use Rattle.std.specs.Prelude.{◌≡◌, ◌⊎◌, ◌<◌, ◌^◌, ℕ, codes, refl};
     ghost use Rattle.std.proofs.Common.{inr};
     ghost use Rattle.facet_format.specs.Complaint.{number_out_of_range, refusal_at};
-    ghost use Rattle.facet_json_document.specs.Tree.{u128 as u128_tree};
+    ghost use Rattle.facet_json_grammar.specs.Tree.{u128 as u128_tree};
     ghost use Rattle.facet_json_core.specs.Refusing.{mismatch_of};
     ghost use Rattle.facet_json_core.proofs.Refusing.{either-about};
     ghost use Rattle.facet_json_core.specs.Meaning.Readings.{u128_of};
@@ -68,8 +68,8 @@ impl Leaf for u128 {
 impl Leaf for i128 {
     ghost use Rattle.std.specs.Prelude.{◌≡◌, ℤ, codes};
     ghost use Rattle.std.proofs.Common.{inr};
-    ghost use Rattle.facet_json_document.specs.Tree.{i128 as i128_tree};
-    ghost use Rattle.facet_json_document.specs.AsRead.{FitsBits};
+    ghost use Rattle.facet_json_grammar.specs.Tree.{i128 as i128_tree};
+    ghost use Rattle.facet_json_grammar.specs.AsRead.{FitsBits};
     ghost use Rattle.facet_json_core.specs.Refusing.{mismatch_of};
     ghost use Rattle.facet_json_core.proofs.Refusing.{mismatch-about};
     ghost use Rattle.facet_json_core.specs.Meaning.Readings.{i128_of};

@@ -2,7 +2,7 @@
 use Rattle.std.proofs.Common.{◌≡◌, ◌≤◌, ℕ, cond, Some, None, ap, ◌∙◌, arith}
 use Rattle.std.specs.Option.{option_and_then}
 use Rattle.std.proofs.lemmas.Bool.{le-leb}
-use Rattle.facet_json_document.specs.Tree.{u64}
+use Rattle.facet_json_grammar.specs.Tree.{u64}
 use Rattle.facet_json_core.specs.Meaning.Laws.{SameReading, ReadsBack}
 use Rattle.facet_json_core.specs.Meaning.Readings.{unsigned_of}
 use Rattle.facet_json_core.specs.Meaning.Shapes.{ShapeLaws}

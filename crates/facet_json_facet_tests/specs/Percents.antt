@@ -1,7 +1,7 @@
 -- Whole numbers from 0 to 100.
 use Rattle.std.specs.Prelude.{ℕ, ◌≤◌, cond, nat_le, Option, Some, None}
 use Rattle.std.specs.Option.{option_and_then}
-use Rattle.facet_json_document.specs.Tree.{u64}
+use Rattle.facet_json_grammar.specs.Tree.{u64}
 use Rattle.facet_json_core.specs.Meaning.Readings.{leaf, unsigned_of}
 use Rattle.facet_json_core.specs.Meaning.Shapes.{Reading, Shape, shape}
 

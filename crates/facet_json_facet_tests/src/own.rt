@@ -3,7 +3,7 @@
 ghost use Rattle.std.specs.Prelude.{◌≡◌, ◌≤◌, Some, length};
 ghost use Rattle.facet_format.specs.Span.{stop};
 ghost use Rattle.facet_format.specs.Views.{refusal_of, span_of};
-ghost use Rattle.facet_json_document.specs.Now.{current_span_of as last_read};
+ghost use Rattle.facet_json_grammar.specs.Now.{current_span_of as last_read};
 ghost use Rattle.facet_json_core.specs.Refusing.{IsAbout};
 
 use crate::readers::By;

@@ -10,12 +10,12 @@ use Rattle.facet_format.specs.Event.{Event}
 use Rattle.facet_format.specs.Kept.{found, without, with_point}
 use Rattle.facet_format.specs.Cursor.{Call, Answer, event, saved, restored, spans, next, peek, save, restore, span, World, Spot, Cursor, at_spot, refused_at, greatest, no_memory_at, Step, repeats, saves, saves_at_the_limit, saves_without_memory, restores, restores_nothing, tells}
 use Rattle.facet_format.specs.Cursor as cursor
-use Rattle.facet_json_document.specs.Reader.{Reader}
-use Rattle.facet_json_document.specs.Now.{Now, on_input, current_span_of}
-use Rattle.facet_json_document.specs.Move.{Moves, without_point}
-use Rattle.facet_json_document.specs.Next.{PassesNext, ShowsNext, IsOver}
-use Rattle.facet_json_document.proofs.MoveLaws.{with_cursor}
-use Rattle.facet_json_document.proofs.MovesNext.{next-passes, next-over, peek-shows, peek-over}
+use Rattle.facet_json_grammar.specs.Reader.{Reader}
+use Rattle.facet_json_grammar.specs.Now.{Now, on_input, current_span_of}
+use Rattle.facet_json_grammar.specs.Move.{Moves, without_point}
+use Rattle.facet_json_grammar.specs.Next.{PassesNext, ShowsNext, IsOver}
+use Rattle.facet_json_grammar.proofs.MoveLaws.{with_cursor}
+use Rattle.facet_json_grammar.proofs.MovesNext.{next-passes, next-over, peek-shows, peek-over}
 use Rattle.facet_json_reader.specs.declared.language.Language.{Language}
 use Rattle.facet_json_reader.specs.declared.refusal.Refused.{Refused}
 use Rattle.facet_json_reader.specs.PlaceViews.{language_of, refused_of}

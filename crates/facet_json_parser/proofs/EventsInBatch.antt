@@ -12,14 +12,14 @@ use Rattle.facet_format.specs.Event.{Event}
 use Rattle.facet_format.specs.Cursor.{World, Spot, unpeeked, Comes, no_event, one_event, spot_after, Cursor, at_spot, refused_at, events, batch, Step, repeats, gives_none, gives, gives_without_memory, gives_up}
 use Rattle.facet_json_parser.specs.Steps.{QueuesOne, queues, queues_the_end, queues_without_memory, queues_nothing, QueuesNext, answers, refuses, QueuesNow}
 use Rattle.facet_json_parser.specs.Steps as steps
-use Rattle.facet_json_document.specs.Reader.{Reader}
-use Rattle.facet_json_document.specs.Now.{Now, on_input, SameInput}
-use Rattle.facet_json_document.specs.Move.{Moves}
-use Rattle.facet_json_document.specs.Next.{PassesAll}
-use Rattle.facet_json_document.specs.Within.{NowWithin}
-use Rattle.facet_json_document.proofs.StepLaws.{Comes-one_more}
-use Rattle.facet_json_document.proofs.MovesNext.{events-pass, events-count}
-use Rattle.facet_json_document.proofs.MoveLaws.{with_cursor, same_cursor-is}
+use Rattle.facet_json_grammar.specs.Reader.{Reader}
+use Rattle.facet_json_grammar.specs.Now.{Now, on_input, SameInput}
+use Rattle.facet_json_grammar.specs.Move.{Moves}
+use Rattle.facet_json_grammar.specs.Next.{PassesAll}
+use Rattle.facet_json_grammar.specs.Within.{NowWithin}
+use Rattle.facet_json_grammar.proofs.StepLaws.{Comes-one_more}
+use Rattle.facet_json_grammar.proofs.MovesNext.{events-pass, events-count}
+use Rattle.facet_json_grammar.proofs.MoveLaws.{with_cursor, same_cursor-is}
 use Rattle.facet_json_parser.proofs.AnswersAreMoves.{step-moves}
 
 module _ {P : Type 0} (w : World P) where

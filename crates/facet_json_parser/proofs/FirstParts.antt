@@ -16,11 +16,11 @@ use Rattle.facet_format.specs.Span.{stop}
 use Rattle.facet_format.specs.Views.{span_of}
 use Rattle.facet_json_token.specs.Token.{Token}
 use Rattle.facet_json_token.specs.TokenList.{tokens_from}
-use Rattle.facet_json_document.specs.Future.{within}
-use Rattle.facet_json_document.specs.Reader.{Reader}
-use Rattle.facet_json_document.specs.Language.{Language, lenient, gaps, rules}
-use Rattle.facet_json_document.specs.Place.{Place, passes, led}
-use Rattle.facet_json_document.specs.Unread.{begins_value, closes_container, IsStuckUnread, PartFrom, separator, none_of_them, PartAt}
+use Rattle.facet_json_grammar.specs.Future.{within}
+use Rattle.facet_json_grammar.specs.Reader.{Reader}
+use Rattle.facet_json_grammar.specs.Language.{Language, lenient, gaps, rules}
+use Rattle.facet_json_grammar.specs.Place.{Place, passes, led}
+use Rattle.facet_json_grammar.specs.Unread.{begins_value, closes_container, IsStuckUnread, PartFrom, separator, none_of_them, PartAt}
 use Rattle.facet_json_reader.specs.PlaceViews.{place_of, turn_of}
 use Rattle.facet_json_reader.specs.Views.{stage_of, reader_of, IsTurn}
 use Rattle.facet_json_parser.specs.PartViews.{first_span_of, Begins, IsFirst}

@@ -3,7 +3,7 @@ use Rattle.std.proofs.Common.{◌≡◌, ℕ, Bool, true, false, cond, ◌==◌,
 use Rattle.std.specs.Option.{option_map}
 use Rattle.facet_format.specs.Cursor.{Spot}
 use Rattle.facet_format.specs.Kept.{found, without, with_point}
-use Rattle.facet_json_document.specs.Reader.{Reader}
+use Rattle.facet_json_grammar.specs.Reader.{Reader}
 use Rattle.facet_json_parser.specs.Lookahead.{Lookahead, spot_of}
 use Rattle.facet_json_parser.specs.Views.{kept_spot}
 

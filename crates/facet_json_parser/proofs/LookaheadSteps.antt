@@ -8,12 +8,12 @@ use Rattle.facet_format.specs.Complaint.{Refusal}
 use Rattle.facet_format.specs.Cursor.{World, an_event, Spot, unpeeked, peeked_at, current_span, no_memory_at}
 use Rattle.facet_format.specs.Event.{EventKind, field_key, scalar, Event, Passed, holds_made, peek_takes_memory}
 use Rattle.facet_format.specs.Views.{event_of}
-use Rattle.facet_json_document.specs.Language.{Language}
-use Rattle.facet_json_document.specs.Future.{Future, gives, finished}
-use Rattle.facet_json_document.specs.Reader.{Reader, past, future_at}
-use Rattle.facet_json_document.proofs.PastEvents.{comes-within}
-use Rattle.facet_json_document.specs.Now.{first_of, on_input}
-use Rattle.facet_json_document.specs.Within.{ReaderWithin}
+use Rattle.facet_json_grammar.specs.Language.{Language}
+use Rattle.facet_json_grammar.specs.Future.{Future, gives, finished}
+use Rattle.facet_json_grammar.specs.Reader.{Reader, past, future_at}
+use Rattle.facet_json_grammar.proofs.PastEvents.{comes-within}
+use Rattle.facet_json_grammar.specs.Now.{first_of, on_input}
+use Rattle.facet_json_grammar.specs.Within.{ReaderWithin}
 use Rattle.facet_json_reader.specs.declared.reader.Held.{Held}
 use Rattle.facet_json_reader.specs.declared.reader.Reader.{Reader as RustReader}
 use Rattle.facet_json_reader.specs.Inner.Quick.{PassesQuickly}

@@ -3,8 +3,8 @@ use Rattle.std.proofs.Common.{◌≡◌, ℕ, false, List, Some, refl, sym, ap, 
 use Rattle.std.specs.Prelude.{is_some}
 use Rattle.facet_format.specs.Event.{ContainerKind, EventKind, struct_start, sequence_start}
 use Rattle.facet_format.specs.Views.{event_kind_of}
-use Rattle.facet_json_document.specs.Reader.{future_at}
-use Rattle.facet_json_document.specs.Language.{Language}
+use Rattle.facet_json_grammar.specs.Reader.{future_at}
+use Rattle.facet_json_grammar.specs.Language.{Language}
 use Rattle.facet_json_reader.specs.declared.reader.Held.{Held}
 use Rattle.facet_json_reader.specs.declared.reader.Reader.{Reader}
 use Rattle.facet_json_reader.specs.Views.{passed_of, reader_of, with_opened, coming, GivesHeld}

@@ -13,19 +13,19 @@ use Rattle.facet_format.specs.Kept.{found, without}
 use Rattle.facet_format.specs.Cursor.{Call, next, events, save, restore, Spot, Cursor, refused_at, Answer, event, batch, spans, Step, gives_none}
 use Rattle.facet_format.specs.Span.{Span}
 use Rattle.facet_format.specs.Steps.{IsStep}
-use Rattle.facet_json_document.specs.Language.{Language}
-use Rattle.facet_json_document.specs.Reader.{Reader}
-use Rattle.facet_json_document.specs.Now.{Now, on_input, current_span_of, ahead, GoesOn, StandsAt}
-use Rattle.facet_json_document.specs.Move.{Moves}
-use Rattle.facet_json_document.proofs.StepLaws.{leaves_points}
-use Rattle.facet_json_document.specs.Within.{ReaderWithin, NowWithin, AnswerWithin, no_events}
-use Rattle.facet_json_document.specs.UnreadLaws.{RefusalWithin}
-use Rattle.facet_json_document.proofs.MoveIsStep.{move-steps}
-use Rattle.facet_json_document.proofs.MovesNext.{next-passes}
+use Rattle.facet_json_grammar.specs.Language.{Language}
+use Rattle.facet_json_grammar.specs.Reader.{Reader}
+use Rattle.facet_json_grammar.specs.Now.{Now, on_input, current_span_of, ahead, GoesOn, StandsAt}
+use Rattle.facet_json_grammar.specs.Move.{Moves}
+use Rattle.facet_json_grammar.proofs.StepLaws.{leaves_points}
+use Rattle.facet_json_grammar.specs.Within.{ReaderWithin, NowWithin, AnswerWithin, no_events}
+use Rattle.facet_json_grammar.specs.UnreadLaws.{RefusalWithin}
+use Rattle.facet_json_grammar.proofs.MoveIsStep.{move-steps}
+use Rattle.facet_json_grammar.proofs.MovesNext.{next-passes}
 use Rattle.facet_json_parser.specs.Inner.Wanted.{PassesWanted}
-use Rattle.facet_json_document.proofs.MoveLaws.{with_cursor, same_cursor-is}
-use Rattle.facet_json_document.proofs.Spans.AnswersWithin.{moves-within, current-within}
-use Rattle.facet_json_document.proofs.Spans.BytesAhead.{moves-onward, moves-goes_on, next-lowers, events-lower}
+use Rattle.facet_json_grammar.proofs.MoveLaws.{with_cursor, same_cursor-is}
+use Rattle.facet_json_grammar.proofs.Spans.AnswersWithin.{moves-within, current-within}
+use Rattle.facet_json_grammar.proofs.Spans.BytesAhead.{moves-onward, moves-goes_on, next-lowers, events-lower}
 use Rattle.facet_json_parser.proofs.KeptSpots.{found-spot}
 use Rattle.facet_json_parser.proofs.PointsByPlace.{above-missing, without-missing}
 use Rattle.facet_json_parser.specs.Lookahead.{Lookahead, first_lookahead, spot_of}

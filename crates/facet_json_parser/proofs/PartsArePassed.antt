@@ -4,12 +4,12 @@ use Rattle.std.specs.Prelude.{Ok, Err}
 use Rattle.facet_format.specs.Complaint.{Refusal}
 use Rattle.facet_format.specs.Cursor.{skipped, raw, skip, capture, World, Spot, Cursor, at_spot, refused_at, Step, repeats}
 use Rattle.facet_format.specs.Cursor as cursor
-use Rattle.facet_json_document.specs.Reader.{Reader}
-use Rattle.facet_json_document.specs.Now.{Now, on_input}
-use Rattle.facet_json_document.specs.Move.{Moves}
-use Rattle.facet_json_document.specs.UnreadLaws.{RefusalWithin}
-use Rattle.facet_json_document.specs.Within.{NowWithin}
-use Rattle.facet_json_document.proofs.MoveLaws.{with_cursor}
+use Rattle.facet_json_grammar.specs.Reader.{Reader}
+use Rattle.facet_json_grammar.specs.Now.{Now, on_input}
+use Rattle.facet_json_grammar.specs.Move.{Moves}
+use Rattle.facet_json_grammar.specs.UnreadLaws.{RefusalWithin}
+use Rattle.facet_json_grammar.specs.Within.{NowWithin}
+use Rattle.facet_json_grammar.proofs.MoveLaws.{with_cursor}
 use Rattle.facet_json_parser.specs.Steps.{SkipsOne, skips, skips_without_memory, skips_nothing, CapturesOne, captures, captures_without_memory, captures_nothing}
 use Rattle.facet_json_parser.proofs.AnswersAreMoves.{step-moves, none-made}
 use Rattle.facet_json_parser.proofs.ParserWithin.{answer-within}

@@ -16,14 +16,14 @@ use Rattle.facet_json_token.specs.Token.{Kind, Token}
 use Rattle.facet_json_token.specs.Token as token
 use Rattle.facet_json_token.specs.Tokens.{Tokens, ended, refused, next}
 use Rattle.facet_json_token.specs.TokenList.{tokens_from}
-use Rattle.facet_json_document.specs.Reader.{Reader}
-use Rattle.facet_json_document.specs.Future.{around}
-use Rattle.facet_json_document.specs.Language.{Language, gaps}
-use Rattle.facet_json_document.specs.Node.{is_scalar}
-use Rattle.facet_json_document.specs.Place.{Place, root, before_key, after_key, after_colon, after_member, before_item, next_key, next_item, after_item, Turn, stops, leads_on, place_turn, value_turn, goes_on}
-use Rattle.facet_json_document.specs.Run.{opening}
-use Rattle.facet_json_document.specs.Unread.{begins_value, past_value, past_key, at_end, at_fault, misplaced, HasColon, colon_stands, colon_missing, a_value, a_broken_value, a_key, a_closing, PartAt}
-use Rattle.facet_json_document.proofs.Runs.OneRun.{runs_or_breaks_off}
+use Rattle.facet_json_grammar.specs.Reader.{Reader}
+use Rattle.facet_json_grammar.specs.Future.{around}
+use Rattle.facet_json_grammar.specs.Language.{Language, gaps}
+use Rattle.facet_json_grammar.specs.Node.{is_scalar}
+use Rattle.facet_json_grammar.specs.Place.{Place, root, before_key, after_key, after_colon, after_member, before_item, next_key, next_item, after_item, Turn, stops, leads_on, place_turn, value_turn, goes_on}
+use Rattle.facet_json_grammar.specs.Run.{opening}
+use Rattle.facet_json_grammar.specs.Unread.{begins_value, past_value, past_key, at_end, at_fault, misplaced, HasColon, colon_stands, colon_missing, a_value, a_broken_value, a_key, a_closing, PartAt}
+use Rattle.facet_json_grammar.proofs.Runs.OneRun.{runs_or_breaks_off}
 use Rattle.facet_json_reader.specs.PlaceViews.{refused_of}
 use Rattle.facet_json_parser.specs.RunViews.{EndsRun, IsRunRefused, breaks_off, without_memory, AnswersRun}
 use Rattle.facet_json_parser.specs.PartViews.{IsFirst, Skips, skips, skips_without_memory, skips_nothing, Captures, captures, captures_without_memory, captures_nothing}

@@ -9,7 +9,7 @@ use Rattle.facet_format.specs.Complaint.{Refusal}
 use Rattle.facet_format.specs.Cursor.{greatest}
 use Rattle.facet_format.specs.Kept.{found, without, with_point}
 use Rattle.facet_format.proofs.KeptLaws.{found-other, found-lost}
-use Rattle.facet_json_document.specs.Language.{Language}
+use Rattle.facet_json_grammar.specs.Language.{Language}
 use Rattle.facet_json_parser.specs.Lookahead.{Lookahead}
 use Rattle.facet_json_parser.specs.Ready.{IsSound, ArePoints, IsReady}
 use Rattle.facet_json_parser.specs.Views.{lookahead_of, point_of}

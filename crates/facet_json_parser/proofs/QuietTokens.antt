@@ -12,8 +12,8 @@ use Rattle.facet_json_token.proofs.CutBounds.{past_gap-bound}
 use Rattle.facet_json_token.proofs.Gaps.{past_gap-again, cut-past_gap}
 use Rattle.facet_json_token.proofs.Offsets.{slice_get-from_read}
 use Rattle.facet_json_token.proofs.TokensSteps.{tokens_by_first, tokens_from-token}
-use Rattle.facet_json_document.specs.Inner.PassedRun.{leaves, passing, passed, Outcome}
-use Rattle.facet_json_document.proofs.Runs.RunsPassed.{passed-next, passed-any}
+use Rattle.facet_json_grammar.specs.Inner.PassedRun.{leaves, passing, passed, Outcome}
+use Rattle.facet_json_grammar.proofs.Runs.RunsPassed.{passed-next, passed-any}
 use Rattle.facet_json_reader.proofs.TokensThere.{tokens-past_gap, there-fits}
 use Rattle.facet_json_parser.specs.Inner.Quiet.{RunLeadsOn, EndsGap}
 use Rattle.facet_json_parser.proofs.MarksAreCut.{mark-is_cut}

@@ -9,8 +9,8 @@ use Rattle.facet_format.specs.Views.{span_of}
 use Rattle.facet_json_token.specs.Gap.{Mode}
 use Rattle.facet_json_token.specs.Token.{Token}
 use Rattle.facet_json_token.specs.Tokens.{Tokens}
-use Rattle.facet_json_document.proofs.Runs.BreaksWithin.{break-within}
-use Rattle.facet_json_document.proofs.TokensInOrder.{AreWithin, token_within, in_order-within, tokens-in_order}
+use Rattle.facet_json_grammar.proofs.Runs.BreaksWithin.{break-within}
+use Rattle.facet_json_grammar.proofs.TokensInOrder.{AreWithin, token_within, in_order-within, tokens-in_order}
 use Rattle.facet_json_reader.specs.PlaceViews.{refused_of}
 use Rattle.facet_json_parser.specs.RunViews.{AnswersRun, IsRunRefused, breaks_off, without_memory}
 

@@ -14,12 +14,12 @@ use Rattle.facet_json_token.specs.Tokens.{Tokens, ended, refused, next}
 use Rattle.facet_json_token.specs.TokenList.{tokens_from}
 use Rattle.facet_json_token.specs.Cut.{cut}
 use Rattle.facet_json_token.specs.Views.{kind_of, cut_of, told_refusal}
-use Rattle.facet_json_document.specs.Language.{lenient}
-use Rattle.facet_json_document.specs.Node.{is_scalar}
-use Rattle.facet_json_document.specs.Run.{opening, one_token}
-use Rattle.facet_json_document.specs.Inner.PassedRun.{leaves, crosses, passing, closes, stops, passed}
-use Rattle.facet_json_document.proofs.Runs.RunsPassed.{passed-next}
-use Rattle.facet_json_document.proofs.Runs.PassedRuns.{is-outcome}
+use Rattle.facet_json_grammar.specs.Language.{lenient}
+use Rattle.facet_json_grammar.specs.Node.{is_scalar}
+use Rattle.facet_json_grammar.specs.Run.{opening, one_token}
+use Rattle.facet_json_grammar.specs.Inner.PassedRun.{leaves, crosses, passing, closes, stops, passed}
+use Rattle.facet_json_grammar.proofs.Runs.RunsPassed.{passed-next}
+use Rattle.facet_json_grammar.proofs.Runs.PassedRuns.{is-outcome}
 use Rattle.facet_json_reader.proofs.CutsAtPlaces.{IsCut, ends, stands, is_cut, Refuses, is_refused}
 use Rattle.facet_json_parser.specs.RunViews.{EndsRun, IsRunRefused, breaks_off, without_memory, value_expected}
 pub use Rattle.facet_json_parser.specs.Inner.Leads.{run_goes_on, run_opening, run_tokens, whole, RunComesTo}

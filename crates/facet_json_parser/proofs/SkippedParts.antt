@@ -4,10 +4,10 @@ use Rattle.facet_format.specs.Complaint.{Refusal}
 use Rattle.facet_format.specs.Cursor.{World, current_span}
 use Rattle.facet_format.specs.Part.{nothing}
 use Rattle.facet_format.specs.Span.{Span}
-use Rattle.facet_json_document.specs.Reader.{Reader}
-use Rattle.facet_json_document.specs.Language.{Language}
-use Rattle.facet_json_document.specs.Unread.{PartAt}
-use Rattle.facet_json_document.specs.Now.{on_input}
+use Rattle.facet_json_grammar.specs.Reader.{Reader}
+use Rattle.facet_json_grammar.specs.Language.{Language}
+use Rattle.facet_json_grammar.specs.Unread.{PartAt}
+use Rattle.facet_json_grammar.specs.Now.{on_input}
 use Rattle.facet_json_parser.specs.declared.part.Part.{Part as RustPart}
 use Rattle.facet_json_parser.specs.PartViews.{after_part, Skips, Captures}
 use Rattle.facet_json_parser.specs.PartViews as answers

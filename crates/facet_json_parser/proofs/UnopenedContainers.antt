@@ -6,10 +6,10 @@ use Rattle.facet_format.specs.Complaint.{Refusal}
 use Rattle.facet_format.specs.Cursor.{no_memory_at}
 use Rattle.facet_format.specs.Event.{takes_memory}
 use Rattle.facet_format.specs.Views.{span_of, event_kind_of}
-use Rattle.facet_json_document.specs.Language.{Language}
+use Rattle.facet_json_grammar.specs.Language.{Language}
 use Rattle.facet_json_reader.specs.declared.reader.Held.{Held}
 use Rattle.facet_json_parser.specs.declared.lookahead.Lookahead.{Lookahead as RustLookahead}
-use Rattle.facet_json_document.specs.Reader.{future_at}
+use Rattle.facet_json_grammar.specs.Reader.{future_at}
 use Rattle.facet_json_reader.specs.Views.{passed_of, coming, GivesHeld, IsRefusedBefore, without_memory}
 use Rattle.facet_json_parser.specs.Lookahead.{reader_before}
 use Rattle.facet_json_parser.specs.Views.{lookahead_of}

@@ -16,9 +16,9 @@ use Rattle.facet_json_token.specs.Token.{Kind, colon}
 use Rattle.facet_json_token.specs.Tokens.{Tokens, ended, next}
 use Rattle.facet_json_token.specs.TokenList.{tokens_from}
 use Rattle.facet_json_token.specs.Views.{kind_of, cut_of, told_refusal}
-use Rattle.facet_json_document.specs.Language.{lenient}
-use Rattle.facet_json_document.specs.Place.{Place, after_key, goes_on}
-use Rattle.facet_json_document.specs.Unread.{IsStuckUnread, at_end, at_fault, past_key, HasColon, colon_stands}
+use Rattle.facet_json_grammar.specs.Language.{lenient}
+use Rattle.facet_json_grammar.specs.Place.{Place, after_key, goes_on}
+use Rattle.facet_json_grammar.specs.Unread.{IsStuckUnread, at_end, at_fault, past_key, HasColon, colon_stands}
 use Rattle.facet_json_reader.specs.PlaceViews.{place_of, turn_of, turn_by}
 use Rattle.facet_json_reader.proofs.CutsAtPlaces.{is_refused}
 use Rattle.facet_json_reader.proofs.StoppingTokens.{none-at_end, stopped-at_place, stopped-after_key}

@@ -3,9 +3,9 @@
 use Rattle.std.specs.Prelude.{◌≡◌, ℕ, Bool, true, false, List, Option, Some, None, IfSome}
 use Rattle.facet_format.specs.Cursor.{Spot}
 use Rattle.facet_format.specs.Event.{ContainerKind, EventKind, struct_start, sequence_start, Event, Passed, holds_made}
-use Rattle.facet_json_document.specs.Language.{Language}
-use Rattle.facet_json_document.specs.Future.{Future, gives, around}
-use Rattle.facet_json_document.specs.Reader.{Reader, first_reader, past, future_at}
+use Rattle.facet_json_grammar.specs.Language.{Language}
+use Rattle.facet_json_grammar.specs.Future.{Future, gives, around}
+use Rattle.facet_json_grammar.specs.Reader.{Reader, first_reader, past, future_at}
 use Rattle.facet_json_reader.specs.Views.{with_opened}
 
 pub record Lookahead : Type 0 where

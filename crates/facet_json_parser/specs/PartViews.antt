@@ -10,11 +10,11 @@ use Rattle.facet_json_token.specs.Token.{Kind, Token}
 use Rattle.facet_json_token.specs.Tokens.{next}
 use Rattle.facet_json_token.specs.TokenList.{tokens_from}
 use Rattle.facet_json_token.specs.Views.{kind_of}
-use Rattle.facet_json_document.specs.Future.{around}
-use Rattle.facet_json_document.specs.Reader.{Reader}
-use Rattle.facet_json_document.specs.Language.{Language, gaps, rules}
-use Rattle.facet_json_document.specs.Place.{Place, names, place_turn}
-use Rattle.facet_json_document.specs.Unread.{begins_value, closes_container, past_value, past_key, PartFrom, PartAt}
+use Rattle.facet_json_grammar.specs.Future.{around}
+use Rattle.facet_json_grammar.specs.Reader.{Reader}
+use Rattle.facet_json_grammar.specs.Language.{Language, gaps, rules}
+use Rattle.facet_json_grammar.specs.Place.{Place, names, place_turn}
+use Rattle.facet_json_grammar.specs.Unread.{begins_value, closes_container, past_value, past_key, PartFrom, PartAt}
 use Rattle.facet_json_parser.specs.declared.part.Part.{Part as RustPart}
 use Rattle.facet_json_parser.specs.declared.part.Part.TheVariants as parts
 

@@ -4,9 +4,9 @@ use Rattle.std.specs.Prelude.{◌≡◌, ◌≤◌, ℕ, List, [], ◌∷◌, Op
 use Rattle.facet_format.specs.Complaint.{Refusal}
 use Rattle.facet_format.specs.Cursor.{greatest}
 use Rattle.facet_format.specs.Kept.{found}
-use Rattle.facet_json_document.specs.Language.{Language}
-use Rattle.facet_json_document.specs.Within.{ReaderWithin}
-use Rattle.facet_json_document.specs.UnreadLaws.{RefusalWithin}
+use Rattle.facet_json_grammar.specs.Language.{Language}
+use Rattle.facet_json_grammar.specs.Within.{ReaderWithin}
+use Rattle.facet_json_grammar.specs.UnreadLaws.{RefusalWithin}
 use Rattle.facet_json_parser.specs.Lookahead.{Lookahead, reader_before, HoldsWhatComes}
 
 -- The place lies within the buffer, and an event that is held is the one that comes there.

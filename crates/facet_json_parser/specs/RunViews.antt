@@ -11,7 +11,7 @@ use Rattle.facet_json_token.specs.Gap.{Mode}
 use Rattle.facet_json_token.specs.Token.{Token}
 use Rattle.facet_json_token.specs.Tokens.{Tokens, next}
 use Rattle.facet_json_token.specs.TokenList.{tokens_from}
-use Rattle.facet_json_document.specs.Run.{opening, Run, BreaksOff}
+use Rattle.facet_json_grammar.specs.Run.{opening, Run, BreaksOff}
 use Rattle.facet_json_reader.specs.PlaceViews.{refused_of}
 
 -- A run's last token takes these bytes, and the tokens go on after them.

@@ -4,7 +4,7 @@ use Rattle.facet_format.specs.Complaint.{Refusal}
 use Rattle.facet_format.specs.Event.{Event, Passed, takes_memory, peek_takes_memory}
 use Rattle.facet_format.specs.Cursor.{World, an_event, the_end, a_refusal, Spot, unpeeked, peeked_at, current_span, no_memory_at, Cursor, at_spot, refused_at}
 use Rattle.facet_format.specs.Part.{Part, has_brackets, skip_of, capture_of}
-use Rattle.facet_json_document.specs.Now.{Now, SameInput, on_input}
+use Rattle.facet_json_grammar.specs.Now.{Now, SameInput, on_input}
 
 -- The next event is passed.
 pub data PassesOne {P : Type 0} (w : World P) (s : Spot P) : Result (Option Event) Refusal → Spot P → Type 0 where

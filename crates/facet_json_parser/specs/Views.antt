@@ -7,8 +7,8 @@ use Rattle.facet_json_reader.specs.declared.language.Language.{Language}
 use Rattle.facet_json_reader.specs.declared.refusal.Refused.{Refused}
 use Rattle.facet_format.specs.Complaint.{Refusal}
 use Rattle.facet_format.specs.Cursor.{Spot, Cursor}
-use Rattle.facet_json_document.specs.Reader.{Reader}
-use Rattle.facet_json_document.specs.Now.{Now}
+use Rattle.facet_json_grammar.specs.Reader.{Reader}
+use Rattle.facet_json_grammar.specs.Now.{Now}
 use Rattle.facet_json_reader.specs.PlaceViews.{language_of, refused_of}
 use Rattle.facet_json_reader.specs.Views.{passed_of, reader_of}
 use Rattle.facet_json_parser.specs.Lookahead.{Lookahead, spot_of}

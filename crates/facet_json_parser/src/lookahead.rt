@@ -9,10 +9,10 @@ ghost use Rattle.facet_json_parser.specs.Steps.{PassesOne, ShowsOne, QueuesOne, 
 ghost use Rattle.facet_format.specs.Cursor.{current_span};
 ghost use Rattle.facet_format.specs.Span.{stop};
 ghost use Rattle.facet_format.specs.Views.{event_of, span_of};
-ghost use Rattle.facet_json_document.specs.Future.{finished};
-ghost use Rattle.facet_json_document.specs.Reader.{future_at};
-ghost use Rattle.facet_json_document.specs.Language.{Language as SpecLanguage};
-ghost use Rattle.facet_json_document.specs.Now.{on_input};
+ghost use Rattle.facet_json_grammar.specs.Future.{finished};
+ghost use Rattle.facet_json_grammar.specs.Reader.{future_at};
+ghost use Rattle.facet_json_grammar.specs.Language.{Language as SpecLanguage};
+ghost use Rattle.facet_json_grammar.specs.Now.{on_input};
 ghost use Rattle.facet_json_reader.specs.PlaceViews.{language_of, refused_of};
 ghost use Rattle.facet_json_reader.specs.Views.{passed_of, IsRefusedBefore};
 ghost use Rattle.facet_json_parser.specs.PartViews.{after_part};

@@ -11,16 +11,16 @@ ghost use Rattle.facet_format.specs.Steps.{IsStep};
 ghost use Rattle.facet_format.specs.Views.{event_of, span_of, parse_refusal, answer_of_event, answer_of_events, answer_of_skip};
 ghost use Rattle.facet_format.specs.Views.{answer_of_capture, answer_of_save, answer_of_span};
 ghost use Rattle.facet_json_token.specs.Gap.{plain, jsonc};
-ghost use Rattle.facet_json_document.specs.Language.{strict};
-ghost use Rattle.facet_json_document.specs.Future.{finished};
+ghost use Rattle.facet_json_grammar.specs.Language.{strict};
+ghost use Rattle.facet_json_grammar.specs.Future.{finished};
 ghost use Rattle.facet_json_reader.specs.PlaceViews.{language_of, refused_of};
-ghost use Rattle.facet_json_document.specs.Now.{fresh, fresh_in, current_span_of, ahead, future_of, SameInput, GoesOn, StandsAt};
-ghost use Rattle.facet_json_document.specs.Move.{Moves, with_kept, without_point};
-ghost use Rattle.facet_json_document.specs.Next.{PassesNext, ShowsNext, PassesAll, IsOver};
+ghost use Rattle.facet_json_grammar.specs.Now.{fresh, fresh_in, current_span_of, ahead, future_of, SameInput, GoesOn, StandsAt};
+ghost use Rattle.facet_json_grammar.specs.Move.{Moves, with_kept, without_point};
+ghost use Rattle.facet_json_grammar.specs.Next.{PassesNext, ShowsNext, PassesAll, IsOver};
 ghost use Rattle.facet_json_parser.specs.Inner.Wanted.{PassesWanted, NeverGives};
 ghost use Rattle.facet_json_reader.specs.Inner.Soughts.{event_of_sought};
-ghost use Rattle.facet_json_document.specs.UnreadLaws.{RefusalWithin};
-ghost use Rattle.facet_json_document.specs.Within.{NowWithin, AnswerWithin};
+ghost use Rattle.facet_json_grammar.specs.UnreadLaws.{RefusalWithin};
+ghost use Rattle.facet_json_grammar.specs.Within.{NowWithin, AnswerWithin};
 ghost use Rattle.facet_json_parser.specs.Steps.{QueuesNow};
 
 use crate::lookahead::Lookahead;
@@ -96,7 +96,7 @@ impl Drop for JsonParser<'_> {
 impl<'de> Model for JsonParser<'de> {
     ghost use Rattle.std.specs.Prelude.{◌≡◌, map, IsUtf8};
     ghost use Rattle.std.specs.Option.{option_map};
-    ghost use Rattle.facet_json_document.specs.Now.{Now};
+    ghost use Rattle.facet_json_grammar.specs.Now.{Now};
     ghost use Rattle.facet_json_token.specs.declared.mode.Trust.TheVariants.{Utf8};
     ghost use Rattle.facet_json_reader.specs.PlaceViews.{language_of, refused_of};
     ghost use Rattle.facet_json_parser.specs.Ready.{IsReady};

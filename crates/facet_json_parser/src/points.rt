@@ -6,7 +6,7 @@ ghost use Rattle.facet_json_parser.specs.declared.points.Point.{Point as RustPoi
 ghost use Rattle.facet_format.specs.Kept.{found, without, with_point};
 ghost use Rattle.facet_json_parser.specs.Ready.{ArePoints};
 ghost use Rattle.facet_json_parser.specs.Views.{lookahead_of, point_of};
-ghost use Rattle.facet_json_document.specs.Language.{Language};
+ghost use Rattle.facet_json_grammar.specs.Language.{Language};
 
 use crate::lookahead::Lookahead;
 use std::alloc::{AllocError, Global};

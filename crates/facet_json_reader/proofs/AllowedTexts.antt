@@ -9,8 +9,8 @@ use Rattle.facet_json_token.specs.Token.{string, number}
 use Rattle.facet_json_token.specs.RfcNumber.{IsRfcNumber}
 use Rattle.facet_json_token.specs.Strict.{wrong_at}
 use Rattle.facet_json_token.proofs.RfcNumbers.{is_rfc-complete}
-use Rattle.facet_json_document.specs.Language.{Language, lenient, strict}
-use Rattle.facet_json_document.specs.StrictTokens.{Allows}
+use Rattle.facet_json_grammar.specs.Language.{Language, lenient, strict}
+use Rattle.facet_json_grammar.specs.StrictTokens.{Allows}
 use Rattle.facet_json_reader.specs.PlaceViews.{least_of}
 use Rattle.facet_json_reader.specs.Values.{AreUnescaped}
 

@@ -12,11 +12,11 @@ use Rattle.facet_json_token.specs.Gap.{Mode}
 use Rattle.facet_json_token.specs.Token.{Kind}
 use Rattle.facet_json_token.specs.Tokens.{Tokens, refused, next}
 use Rattle.facet_json_token.specs.Views.{kind_of, cut_of, told_refusal}
-use Rattle.facet_json_document.specs.Future.{finished, behind_root}
-use Rattle.facet_json_document.specs.Language.{strict, strict_rules}
-use Rattle.facet_json_document.specs.Place.{after_root, goes_on}
-use Rattle.facet_json_document.specs.Refusal.{at_fault}
-use Rattle.facet_json_document.specs.StrictTokens.{tokens_in, cut_in}
+use Rattle.facet_json_grammar.specs.Future.{finished, behind_root}
+use Rattle.facet_json_grammar.specs.Language.{strict, strict_rules}
+use Rattle.facet_json_grammar.specs.Place.{after_root, goes_on}
+use Rattle.facet_json_grammar.specs.Refusal.{at_fault}
+use Rattle.facet_json_grammar.specs.StrictTokens.{tokens_in, cut_in}
 use Rattle.facet_json_reader.specs.PlaceViews.{turn_of, turn_by}
 use Rattle.facet_json_reader.proofs.CutsAtPlaces.{is_refused}
 use Rattle.facet_json_reader.proofs.StoppingTokens.{none-at_end, stopped-at_place}

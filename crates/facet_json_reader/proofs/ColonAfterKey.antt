@@ -8,13 +8,13 @@ use Rattle.facet_format.specs.Complaint.{Refusal, refusal_at, unexpected_token}
 use Rattle.facet_format.specs.Span.{span_at}
 use Rattle.facet_format.specs.Views.{span_of}
 use Rattle.std.specs.Prelude.{codes}
-use Rattle.facet_json_document.specs.Language.{Language}
-use Rattle.facet_json_document.specs.StrictTokens.{tokens_in, cut_in}
+use Rattle.facet_json_grammar.specs.Language.{Language}
+use Rattle.facet_json_grammar.specs.StrictTokens.{tokens_in, cut_in}
 use Rattle.facet_json_token.specs.Token.{Kind, colon}
 use Rattle.facet_json_token.specs.Tokens.{Tokens, next}
 use Rattle.facet_json_token.specs.Views.{kind_of, cut_of}
-use Rattle.facet_json_document.specs.Place.{after_key, goes_on}
-use Rattle.facet_json_document.specs.Refusal.{at_end}
+use Rattle.facet_json_grammar.specs.Place.{after_key, goes_on}
+use Rattle.facet_json_grammar.specs.Refusal.{at_end}
 use Rattle.facet_json_reader.specs.Views.{IsColon, StopsAt}
 use Rattle.facet_json_reader.proofs.CutsAtPlaces.{IsCut, ends, stands, is_cut}
 use Rattle.facet_json_reader.proofs.StoppingTokens.{none-at_end, stopped-after_key}

@@ -11,16 +11,16 @@ use Rattle.facet_json_token.specs.declared.fault.Fault.{Fault as RustFault}
 use Rattle.facet_format.specs.Complaint.{refusal_at}
 use Rattle.facet_format.specs.Span.{stop}
 use Rattle.facet_format.specs.Views.{span_of}
-use Rattle.facet_json_document.specs.Language.{Language, lenient, strict}
-use Rattle.facet_json_document.specs.StrictTokens.{tokens_in, cut_in}
+use Rattle.facet_json_grammar.specs.Language.{Language, lenient, strict}
+use Rattle.facet_json_grammar.specs.StrictTokens.{tokens_in, cut_in}
 use Rattle.facet_json_token.specs.Token.{Kind, Token, Fault}
 use Rattle.facet_json_token.specs.Token as token
 use Rattle.facet_json_token.specs.Cut.{Cut, nothing_left, token as cut_token, fault, cut}
 use Rattle.facet_json_token.specs.Tokens.{ended, refused, next}
 use Rattle.facet_json_token.specs.Views.{kind_of, token_answer, inside_text, told_cut, cut_of, told_refusal}
 use Rattle.facet_json_token.proofs.CutBounds.{TokenFits, KindFits, cut-token_fits}
-use Rattle.facet_json_document.proofs.TokensIn.{tokens_in-token, tokens_in-fault, tokens_in-nothing, strict_token-is}
-use Rattle.facet_json_document.specs.Place.{complaint_of_fault}
+use Rattle.facet_json_grammar.proofs.TokensIn.{tokens_in-token, tokens_in-fault, tokens_in-nothing, strict_token-is}
+use Rattle.facet_json_grammar.specs.Place.{complaint_of_fault}
 
 -- What is cut of either language fits there.
 cut_in-token_fits : (language : Language) (buffer : List ℕ) (position : ℕ) (t : Token) → position ≤ length buffer →

@@ -13,23 +13,23 @@ use Rattle.facet_format.specs.Event.{ContainerKind, EventKind, Event, Passed, Sc
 use Rattle.facet_format.specs.Span.{Span, stop}
 use Rattle.facet_format.specs.Views.{span_of, event_of}
 use Rattle.facet_json_token.specs.Decoded.{decoded}
-use Rattle.facet_json_document.specs.Language.{Language, rules}
-use Rattle.facet_json_document.specs.StrictTokens.{tokens_in}
+use Rattle.facet_json_grammar.specs.Language.{Language, rules}
+use Rattle.facet_json_grammar.specs.StrictTokens.{tokens_in}
 use Rattle.facet_json_token.specs.Token.{Kind, Token, colon}
 use Rattle.facet_json_token.specs.Token as token
 use Rattle.facet_json_token.specs.Tokens.{Tokens}
-use Rattle.facet_json_document.specs.Future.{Future, gives, within, after_value, stack_after, stage_after, turn, reads_by, reads_colon_by}
-use Rattle.facet_json_document.specs.Meaning.{meaning_of, text_in_tree as text_in}
-use Rattle.facet_json_document.specs.Place.{Place, after_key, after_colon, Turn, stops, passes, says, says_scalar, names, place_turn, led}
-use Rattle.facet_json_document.specs.Refusal.{needs_meaning, meaningless}
-use Rattle.facet_json_document.specs.Tree.{Tree}
-use Rattle.facet_json_document.specs.Tree as tree
-use Rattle.facet_json_document.specs.Walk.{scalar_event, key_event, scalar_of, name_of}
+use Rattle.facet_json_grammar.specs.Future.{Future, gives, within, after_value, stack_after, stage_after, turn, reads_by, reads_colon_by}
+use Rattle.facet_json_grammar.specs.Meaning.{meaning_of, text_in_tree as text_in}
+use Rattle.facet_json_grammar.specs.Place.{Place, after_key, after_colon, Turn, stops, passes, says, says_scalar, names, place_turn, led}
+use Rattle.facet_json_grammar.specs.Refusal.{needs_meaning, meaningless}
+use Rattle.facet_json_grammar.specs.Tree.{Tree}
+use Rattle.facet_json_grammar.specs.Tree as tree
+use Rattle.facet_json_grammar.specs.Walk.{scalar_event, key_event, scalar_of, name_of}
 use Rattle.facet_json_reader.specs.PlaceViews.{turn_of}
 use Rattle.facet_json_reader.specs.TokenViews.{IsTextOf, IsUnmade, IsMeaningless}
 use Rattle.facet_json_reader.specs.Views.{passed_of, comes_at, IsTurn, StopsAt, IsUnmadeScalar, IsColon, GivesHeld, IsRefusedBefore, without_memory, at_a_stop}
-use Rattle.facet_json_document.proofs.WalkComes.{follows, reads-turn, turn-plain}
-use Rattle.facet_json_document.proofs.StuckComes.{stuck-reads, stuck-reads_colon}
+use Rattle.facet_json_grammar.proofs.WalkComes.{follows, reads-turn, turn-plain}
+use Rattle.facet_json_grammar.proofs.StuckComes.{stuck-reads, stuck-reads_colon}
 use Rattle.facet_json_reader.proofs.TurnsAtPlaces.{is_mark, mark-plain}
 
 -- ---- what needs a meaning and has it

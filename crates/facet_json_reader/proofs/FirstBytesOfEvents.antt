@@ -17,18 +17,18 @@ use Rattle.facet_json_token.specs.Tokens.{Tokens, ended, refused, next}
 use Rattle.facet_json_token.specs.TokenList.{tokens_from}
 use Rattle.facet_json_token.proofs.FirstBytes.{cut_here-by}
 use Rattle.facet_json_token.proofs.TokensSteps.{by_first, tokens_by_first}
-use Rattle.facet_json_document.specs.Future.{Future, gives, within, turn, is_meaningless, reads_by}
-use Rattle.facet_json_document.specs.Language.{Language, Rules, lenient, strict, gaps, rules}
-use Rattle.facet_json_document.specs.Node.{is_scalar}
-use Rattle.facet_json_document.specs.Meaning.{meaning_of, tree_of_number}
-use Rattle.facet_json_document.specs.Refusal.{needs_meaning}
-use Rattle.facet_json_document.specs.Tree as tree
+use Rattle.facet_json_grammar.specs.Future.{Future, gives, within, turn, is_meaningless, reads_by}
+use Rattle.facet_json_grammar.specs.Language.{Language, Rules, lenient, strict, gaps, rules}
+use Rattle.facet_json_grammar.specs.Node.{is_scalar}
+use Rattle.facet_json_grammar.specs.Meaning.{meaning_of, tree_of_number}
+use Rattle.facet_json_grammar.specs.Refusal.{needs_meaning}
+use Rattle.facet_json_grammar.specs.Tree as tree
 use Rattle.facet_json_token.specs.Decoded.{decoded}
-use Rattle.facet_json_document.specs.Place.{Place, root, after_colon, before_item, next_item, Turn, stops, passes, says, says_scalar, names, place_turn, value_turn}
-use Rattle.facet_json_document.specs.StrictTokens.{tokens_in}
-use Rattle.facet_json_document.specs.Walk.{scalar_of, scalar_event, event_at}
-use Rattle.facet_json_document.proofs.TokensIn.{strict-begins}
-use Rattle.facet_json_document.proofs.WalkComes.{follows, reads-turn}
+use Rattle.facet_json_grammar.specs.Place.{Place, root, after_colon, before_item, next_item, Turn, stops, passes, says, says_scalar, names, place_turn, value_turn}
+use Rattle.facet_json_grammar.specs.StrictTokens.{tokens_in}
+use Rattle.facet_json_grammar.specs.Walk.{scalar_of, scalar_event, event_at}
+use Rattle.facet_json_grammar.proofs.TokensIn.{strict-begins}
+use Rattle.facet_json_grammar.proofs.WalkComes.{follows, reads-turn}
 use Rattle.facet_json_reader.specs.declared.reader.Reader.{Reader}
 use Rattle.facet_json_reader.specs.Inner.Quick.{MayBeValue, Reaches, ComesNo}
 use Rattle.facet_json_reader.specs.declared.sought.Sought.{Sought}

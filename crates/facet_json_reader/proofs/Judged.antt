@@ -19,8 +19,8 @@ use Rattle.facet_json_token.specs.RfcNumber.{IsRfcNumber}
 use Rattle.facet_json_token.specs.RfcNumberTest.{is_rfc_number}
 use Rattle.facet_json_token.specs.NumberViews.{number_fault}
 use Rattle.facet_json_token.proofs.RfcNumbers.{is_rfc-sound, is_rfc-complete}
-use Rattle.facet_json_document.specs.Language.{lenient}
-use Rattle.facet_json_document.specs.StrictTokens.{strict_cut}
+use Rattle.facet_json_grammar.specs.Language.{lenient}
+use Rattle.facet_json_grammar.specs.StrictTokens.{strict_cut}
 use Rattle.facet_json_reader.specs.PlaceViews.{HasSlices, IsJudged}
 use Rattle.facet_json_reader.proofs.CutsAtPlaces.{IsCut, ends, stands, is_cut, TokenAnswer, the_end, a_token, token_answer-is}
 

@@ -9,8 +9,8 @@ use Rattle.facet_json_token.specs.DecodeViews.{IsItsText, IsFirstRefusal}
 use Rattle.facet_json_token.specs.Token as token
 use Rattle.facet_json_token.proofs.FaultSteps.{told-no_text}
 use Rattle.facet_json_token.proofs.PlainText.{decoded-plain_none}
-use Rattle.facet_json_document.specs.Refusal.{of_plain_string, of_escaped_string}
-use Rattle.facet_json_document.specs.Tree as tree
+use Rattle.facet_json_grammar.specs.Refusal.{of_plain_string, of_escaped_string}
+use Rattle.facet_json_grammar.specs.Tree as tree
 use Rattle.facet_json_reader.specs.TokenViews.{IsContent, IsMeaningless}
 
 module _ (buffer : List ℕ) (s : RustSpan) (start finish : ℕ) where

@@ -4,7 +4,7 @@ use Rattle.std.proofs.lemmas.List.{reverse-append}
 use Rattle.std.specs.Option.{unwrap_or, option_to_list}
 use Rattle.std.specs.Prelude.{MatchOption}
 use Rattle.facet_format.specs.Event.{object, array}
-use Rattle.facet_json_document.specs.Future.{around}
+use Rattle.facet_json_grammar.specs.Future.{around}
 use Rattle.facet_json_reader.specs.Packed.{kind_in, kinds_in}
 
 -- a container more in the innermost word, where that isn't full

@@ -13,13 +13,13 @@ use Rattle.facet_format.specs.Complaint.{Refusal}
 use Rattle.facet_format.specs.Event.{ContainerKind}
 use Rattle.facet_format.specs.Span.{Span, stop}
 use Rattle.facet_format.specs.Views.{span_of}
-use Rattle.facet_json_document.specs.Language.{Language, rules}
-use Rattle.facet_json_document.specs.StrictTokens.{tokens_in, cut_in}
+use Rattle.facet_json_grammar.specs.Language.{Language, rules}
+use Rattle.facet_json_grammar.specs.StrictTokens.{tokens_in, cut_in}
 use Rattle.facet_json_token.specs.Token.{Kind}
 use Rattle.facet_json_token.specs.Tokens.{Tokens, ended, next}
 use Rattle.facet_json_token.specs.Views.{kind_of, cut_of}
-use Rattle.facet_json_document.specs.Future.{Future, within, over, reads_by, behind_root}
-use Rattle.facet_json_document.specs.Place.{stops, goes_on}
+use Rattle.facet_json_grammar.specs.Future.{Future, within, over, reads_by, behind_root}
+use Rattle.facet_json_grammar.specs.Place.{stops, goes_on}
 use Rattle.facet_json_reader.specs.PlaceViews.{place_of, turn_of, turn_by}
 use Rattle.facet_json_reader.specs.Views.{stage_of, comes_at, coming, IsTurn, StopsAt, IsRefusedBefore}
 use Rattle.facet_json_reader.proofs.EventsAtTurns.{stops-refused}

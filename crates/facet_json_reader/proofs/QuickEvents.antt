@@ -19,21 +19,21 @@ use Rattle.facet_format.specs.NumberParts.{parts, parts_len, parts_hint, is_bare
 use Rattle.facet_json_token.specs.Gap.{Mode, plain}
 use Rattle.facet_json_token.specs.Cut.{cut_here, past_gap, common_len, token_at, punctuation, start_of, opens_number, cut_number}
 use Rattle.facet_json_token.proofs.FirstBytes.{cut_here-number}
-use Rattle.facet_json_document.specs.Language.{Language, gaps, rules}
-use Rattle.facet_json_document.specs.Refusal.{needs_meaning}
-use Rattle.facet_json_document.specs.StrictTokens.{tokens_in, Allows}
-use Rattle.facet_json_document.proofs.TokensIn.{allowed-plain}
+use Rattle.facet_json_grammar.specs.Language.{Language, gaps, rules}
+use Rattle.facet_json_grammar.specs.Refusal.{needs_meaning}
+use Rattle.facet_json_grammar.specs.StrictTokens.{tokens_in, Allows}
+use Rattle.facet_json_grammar.proofs.TokensIn.{allowed-plain}
 use Rattle.facet_json_token.specs.Token.{Kind, Token, colon, string}
 use Rattle.facet_json_token.specs.Token as token
 use Rattle.facet_json_token.specs.Tokens.{Tokens, next}
-use Rattle.facet_json_document.specs.Future.{gives, Stage, within, after_value, stack_after, stage_after, turn, reads_by, reads_colon_by}
-use Rattle.facet_json_document.specs.Meaning.{meaning_of, text_in_tree as text_in}
-use Rattle.facet_json_document.specs.Place.{Place, root, after_colon, before_item, next_item, Turn, passes, says, says_scalar, names, place_turn, led}
-use Rattle.facet_json_document.specs.Tree.{Tree}
-use Rattle.facet_json_document.specs.Tree as tree
-use Rattle.facet_json_document.specs.Walk.{event_at, scalar_event, key_event, scalar_of, name_of}
-use Rattle.facet_json_document.specs.Node.{is_scalar}
-use Rattle.facet_json_document.proofs.WalkComes.{object_here, array_here, TakesValue, at_root, of_member, of_list, of_next_item, follows, reads-turn, turn-plain, turn-meant, scalar_here}
+use Rattle.facet_json_grammar.specs.Future.{gives, Stage, within, after_value, stack_after, stage_after, turn, reads_by, reads_colon_by}
+use Rattle.facet_json_grammar.specs.Meaning.{meaning_of, text_in_tree as text_in}
+use Rattle.facet_json_grammar.specs.Place.{Place, root, after_colon, before_item, next_item, Turn, passes, says, says_scalar, names, place_turn, led}
+use Rattle.facet_json_grammar.specs.Tree.{Tree}
+use Rattle.facet_json_grammar.specs.Tree as tree
+use Rattle.facet_json_grammar.specs.Walk.{event_at, scalar_event, key_event, scalar_of, name_of}
+use Rattle.facet_json_grammar.specs.Node.{is_scalar}
+use Rattle.facet_json_grammar.proofs.WalkComes.{object_here, array_here, TakesValue, at_root, of_member, of_list, of_next_item, follows, reads-turn, turn-plain, turn-meant, scalar_here}
 use Rattle.facet_json_reader.proofs.TokensThere.{mark-cut, tokens_in-past_gap, word-cut}
 use Rattle.facet_json_reader.proofs.ShortNumbers.{decimal-there}
 use Rattle.facet_json_reader.specs.Inner.Short.{IsDecimalThere}

@@ -9,13 +9,13 @@ use Rattle.facet_json_token.specs.declared.fault.Fault.{Fault as RustFault}
 use Rattle.facet_format.specs.Complaint.{Refusal}
 use Rattle.facet_format.specs.Span.{stop}
 use Rattle.facet_format.specs.Views.{span_of, hint_of}
-use Rattle.facet_json_document.specs.Language.{Language}
-use Rattle.facet_json_document.specs.StrictTokens.{tokens_in, cut_in}
+use Rattle.facet_json_grammar.specs.Language.{Language}
+use Rattle.facet_json_grammar.specs.StrictTokens.{tokens_in, cut_in}
 use Rattle.facet_json_token.specs.Token.{Kind}
 use Rattle.facet_json_token.specs.Views.{kind_of, cut_of, told_refusal}
 use Rattle.facet_json_token.proofs.CutBounds.{KindFits, StringFits, NumberFits}
-use Rattle.facet_json_document.specs.Place.{Place}
-use Rattle.facet_json_document.specs.Refusal.{at_fault}
+use Rattle.facet_json_grammar.specs.Place.{Place}
+use Rattle.facet_json_grammar.specs.Refusal.{at_fault}
 use Rattle.facet_json_reader.proofs.CutsAtPlaces.{IsCut, ends, stands, is_cut, is_refused}
 use Rattle.facet_json_reader.specs.TokenViews.{CanBeRead}
 use Rattle.facet_json_reader.specs.Views.{StopsAt}

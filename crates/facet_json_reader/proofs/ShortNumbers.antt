@@ -5,7 +5,7 @@ use Rattle.facet_format.specs.Number.{float}
 use Rattle.facet_format.specs.NumberValue.{decimal, number}
 use Rattle.facet_format.specs.Event as event
 use Rattle.facet_json_token.specs.Token as token
-use Rattle.facet_json_document.specs.Meaning.{tree_of_number}
+use Rattle.facet_json_grammar.specs.Meaning.{tree_of_number}
 use Rattle.facet_json_reader.specs.Inner.Short.{IsDecimalThere}
 use Rattle.facet_json_reader.specs.Values.{IsScalarThere}
 

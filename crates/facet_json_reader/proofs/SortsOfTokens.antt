@@ -4,7 +4,7 @@ use Rattle.facet_json_token.specs.Token.{Kind, string}
 use Rattle.facet_json_token.specs.Token as token
 use Rattle.facet_format.specs.declared.event.ContainerKind.{ContainerKind as RustContainerKind}
 use Rattle.facet_format.specs.declared.event.ContainerKind.TheVariants as containers
-use Rattle.facet_json_document.specs.Place.{says, says_scalar, place_turn}
+use Rattle.facet_json_grammar.specs.Place.{says, says_scalar, place_turn}
 use Rattle.facet_json_reader.specs.declared.place.Place.{Place as RustPlace}
 use Rattle.facet_json_reader.specs.declared.place.Place.TheVariants as places
 use Rattle.facet_json_reader.specs.declared.place.Sort.TheVariants as sorts

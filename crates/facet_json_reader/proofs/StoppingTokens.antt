@@ -6,12 +6,12 @@ use Rattle.facet_format.specs.Views.{span_of}
 use Rattle.facet_json_token.specs.declared.token.Token.{Token as RustToken}
 use Rattle.facet_json_token.specs.declared.token.Token.TheVariants as code
 use Rattle.facet_json_token.specs.declared.token.SpannedToken.{SpannedToken}
-use Rattle.facet_json_document.specs.Language.{Language}
-use Rattle.facet_json_document.specs.StrictTokens.{tokens_in, cut_in}
+use Rattle.facet_json_grammar.specs.Language.{Language}
+use Rattle.facet_json_grammar.specs.StrictTokens.{tokens_in, cut_in}
 use Rattle.facet_json_token.specs.Token.{Kind}
 use Rattle.facet_json_token.specs.Tokens.{Tokens, ended, next}
 use Rattle.facet_json_token.specs.Views.{kind_of, cut_of}
-use Rattle.facet_json_document.specs.Place.{after_key, leads_on, goes_on}
+use Rattle.facet_json_grammar.specs.Place.{after_key, leads_on, goes_on}
 use Rattle.facet_json_reader.specs.declared.place.Place.{Place as RustPlace}
 use Rattle.facet_json_reader.specs.declared.place.Turn.TheVariants as turns
 use Rattle.facet_json_reader.specs.PlaceViews.{place_of, turn_of, turn_by}

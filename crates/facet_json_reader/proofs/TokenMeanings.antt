@@ -13,9 +13,9 @@ use Rattle.facet_format.specs.Span.{Span}
 use Rattle.facet_json_token.specs.Token.{Kind}
 use Rattle.facet_json_token.specs.Token as token
 use Rattle.facet_json_token.specs.Tokens.{Tokens, next}
-use Rattle.facet_json_document.specs.Meaning.{meaning_of}
-use Rattle.facet_json_document.specs.Place.{Place, kind_name, expected_at, goes_on}
-use Rattle.facet_json_document.specs.Refusal.{needs_meaning, misplaced}
+use Rattle.facet_json_grammar.specs.Meaning.{meaning_of}
+use Rattle.facet_json_grammar.specs.Place.{Place, kind_name, expected_at, goes_on}
+use Rattle.facet_json_grammar.specs.Refusal.{needs_meaning, misplaced}
 use Rattle.facet_json_reader.specs.PlaceViews.{name_text, expected_text}
 use Rattle.facet_json_reader.specs.TokenViews.{number_at, number_in, holds_made_text, IsReadAs, IsUnmade}
 use Rattle.facet_json_reader.specs.Views.{IsNamed, IsNameOf, StopsAt}

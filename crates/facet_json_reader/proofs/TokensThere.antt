@@ -13,9 +13,9 @@ use Rattle.facet_json_token.proofs.CutBounds.{CutFits, TokenFits, here_fits}
 use Rattle.facet_json_token.proofs.FirstBytes.{cut_here-by, cut_here-word, cut_here-number, cut_word-is}
 use Rattle.facet_json_token.proofs.NumberCuts.{cut_number-parts}
 use Rattle.facet_json_token.proofs.TokensSteps.{tokens_from-token}
-use Rattle.facet_json_document.specs.Language.{Language, gaps}
-use Rattle.facet_json_document.specs.StrictTokens.{tokens_in, Allows}
-use Rattle.facet_json_document.proofs.TokensIn.{tokens_in-allowed}
+use Rattle.facet_json_grammar.specs.Language.{Language, gaps}
+use Rattle.facet_json_grammar.specs.StrictTokens.{tokens_in, Allows}
+use Rattle.facet_json_grammar.proofs.TokensIn.{tokens_in-allowed}
 
 -- One byte of punctuation is cut as its token.
 pub mark-cut : (mode : Mode) (buffer : List ℕ) (at b : ℕ) (kind : Kind) → slice_get buffer at ≡ Some b → start_of b ≡ punctuation kind →

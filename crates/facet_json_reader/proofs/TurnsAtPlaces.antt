@@ -2,8 +2,8 @@
 use Rattle.std.proofs.Common.{◌≡◌, Bool, true, false, refl}
 use Rattle.facet_json_token.specs.Token.{Kind}
 use Rattle.facet_json_token.specs.Token as token
-use Rattle.facet_json_document.specs.Place.{Place, before_key, Turn, passes, says, place_turn}
-use Rattle.facet_json_document.specs.Refusal.{needs_meaning}
+use Rattle.facet_json_grammar.specs.Place.{Place, before_key, Turn, passes, says, place_turn}
+use Rattle.facet_json_grammar.specs.Refusal.{needs_meaning}
 
 -- a separator, or what opens or closes a container
 abbrev pub is_mark : Turn → Bool

@@ -9,9 +9,9 @@ use Rattle.facet_format.specs.NumberParts.{Parts, parts, parts_len, parts_hint, 
 use Rattle.facet_json_token.specs.Cut.{opens_number, start_of}
 use Rattle.facet_json_token.specs.Token.{Kind, string}
 use Rattle.facet_json_token.specs.Token as token
-use Rattle.facet_json_document.specs.Meaning.{tree_of_number}
-use Rattle.facet_json_document.specs.Tree as tree
-use Rattle.facet_json_document.specs.Walk.{scalar_by}
+use Rattle.facet_json_grammar.specs.Meaning.{tree_of_number}
+use Rattle.facet_json_grammar.specs.Tree as tree
+use Rattle.facet_json_grammar.specs.Walk.{scalar_by}
 use Rattle.facet_json_reader.proofs.TokensThere.{number-cut}
 use Rattle.facet_json_reader.specs.Values.{IsPlainText, IsScalarThere}
 

@@ -32,9 +32,9 @@ use Rattle.facet_json_token.specs.Strict.{strict_fault}
 use Rattle.facet_json_token.specs.Token.{Token, Fault, Kind}
 use Rattle.facet_json_token.specs.Token as token
 use Rattle.facet_json_token.specs.Views.{mode_of, inside_text, told_cut}
-use Rattle.facet_json_document.specs.Language.{Language, lenient, strict}
-use Rattle.facet_json_document.specs.Place.{Place, Turn, stops, passes, says, says_scalar, place_turn}
-use Rattle.facet_json_document.specs.Place as place
+use Rattle.facet_json_grammar.specs.Language.{Language, lenient, strict}
+use Rattle.facet_json_grammar.specs.Place.{Place, Turn, stops, passes, says, says_scalar, place_turn}
+use Rattle.facet_json_grammar.specs.Place as place
 
 -- ---- refusals
 

@@ -19,11 +19,11 @@ use Rattle.facet_format.specs.Span.{Span}
 use Rattle.facet_format.specs.Views.{hint_of}
 use Rattle.facet_json_token.specs.Token.{Kind}
 use Rattle.facet_json_token.specs.Token as token
-use Rattle.facet_json_document.specs.Meaning.{meaning_of}
-use Rattle.facet_json_document.specs.Node.{is_string}
-use Rattle.facet_json_document.specs.Refusal.{needs_meaning, Complains}
-use Rattle.facet_json_document.specs.Tree as tree
-use Rattle.facet_json_document.specs.Walk.{text_by}
+use Rattle.facet_json_grammar.specs.Meaning.{meaning_of}
+use Rattle.facet_json_grammar.specs.Node.{is_string}
+use Rattle.facet_json_grammar.specs.Refusal.{needs_meaning, Complains}
+use Rattle.facet_json_grammar.specs.Tree as tree
+use Rattle.facet_json_grammar.specs.Walk.{text_by}
 
 -- ---- what stands in the buffer
 

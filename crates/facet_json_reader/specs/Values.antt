@@ -7,10 +7,10 @@ use Rattle.facet_json_token.specs.Cut.{has_backslash, cut_here, token_at}
 use Rattle.facet_json_token.specs.Gap.{Mode}
 use Rattle.facet_json_token.specs.Token.{Kind, string}
 use Rattle.facet_json_token.specs.Decoded.{decoded}
-use Rattle.facet_json_document.specs.Meaning.{meaning_of}
-use Rattle.facet_json_document.specs.Node.{is_scalar}
-use Rattle.facet_json_document.specs.Tree.{Tree}
-use Rattle.facet_json_document.specs.Walk.{scalar_of}
+use Rattle.facet_json_grammar.specs.Meaning.{meaning_of}
+use Rattle.facet_json_grammar.specs.Node.{is_scalar}
+use Rattle.facet_json_grammar.specs.Tree.{Tree}
+use Rattle.facet_json_grammar.specs.Walk.{scalar_of}
 
 -- From this offset up to that one stands a string without an escape, whose text this is.
 pub record IsPlainText (buffer : List ℕ) (at finish : ℕ) (text : List ℕ) : Type 0 where

@@ -22,14 +22,14 @@ use Rattle.facet_format.specs.Views.{span_of, event_of, scalar_value_of}
 use Rattle.facet_json_token.specs.Token.{Kind, colon}
 use Rattle.facet_json_token.specs.Tokens.{Tokens, next}
 use Rattle.facet_json_token.specs.Views.{kind_of}
-use Rattle.facet_json_document.specs.Future.{Future, gives, finished, stuck, Stage, within, over, reads_by}
-use Rattle.facet_json_document.specs.Language.{Language, rules}
-use Rattle.facet_json_document.specs.StrictTokens.{tokens_in}
-use Rattle.facet_json_document.specs.Meaning.{meaning_of}
-use Rattle.facet_json_document.specs.Place.{Place, after_key, place_turn, kind_name}
-use Rattle.facet_json_document.specs.Refusal.{needs_meaning, IsStuck}
-use Rattle.facet_json_document.specs.Reader.{Reader}
-use Rattle.facet_json_document.specs.Walk.{scalar_of}
+use Rattle.facet_json_grammar.specs.Future.{Future, gives, finished, stuck, Stage, within, over, reads_by}
+use Rattle.facet_json_grammar.specs.Language.{Language, rules}
+use Rattle.facet_json_grammar.specs.StrictTokens.{tokens_in}
+use Rattle.facet_json_grammar.specs.Meaning.{meaning_of}
+use Rattle.facet_json_grammar.specs.Place.{Place, after_key, place_turn, kind_name}
+use Rattle.facet_json_grammar.specs.Refusal.{needs_meaning, IsStuck}
+use Rattle.facet_json_grammar.specs.Reader.{Reader}
+use Rattle.facet_json_grammar.specs.Walk.{scalar_of}
 use Rattle.facet_json_reader.specs.PlaceViews.{place_of, turn_of, name_text, refused_of}
 use Rattle.facet_json_reader.specs.TokenViews.{IsTextOf, IsUnmade, IsMeaningless}
 

@@ -1,7 +1,7 @@
 //! The open containers of a document, the innermost first.
 
 ghost use Rattle.std.specs.Prelude.{◌≡◌, ◌<◌, [], ◌∷◌, List, Option, MatchResult, IfOk};
-ghost use Rattle.facet_json_document.specs.Future.{around};
+ghost use Rattle.facet_json_grammar.specs.Future.{around};
 ghost use Rattle.facet_json_reader.specs.Packed.{kind_in};
 ghost use Rattle.facet_json_reader.specs.PlaceViews.{innermost_of};
 ghost use Rattle.facet_format.specs.Views.{container_of};

@@ -9,8 +9,8 @@ ghost use Rattle.facet_format.specs.NumberValue.{number as spec_number, decimal 
 ghost use Rattle.facet_format.specs.Span.{span_at, stop};
 ghost use Rattle.facet_format.specs.Views.{span_of, event_kind_of};
 ghost use Rattle.facet_json_token.specs.Cut.{start_of, opens_number};
-ghost use Rattle.facet_json_document.specs.Language.{Language as SpecLanguage};
-ghost use Rattle.facet_json_document.specs.Place.{Place as SpecPlace};
+ghost use Rattle.facet_json_grammar.specs.Language.{Language as SpecLanguage};
+ghost use Rattle.facet_json_grammar.specs.Place.{Place as SpecPlace};
 ghost use Rattle.facet_json_reader.specs.PlaceViews.{language_of, place_of, opening_bracket, closing_bracket};
 ghost use Rattle.facet_json_reader.specs.Inner.Quick.{MayBeValue, Reaches, Leaves, PassesQuickly};
 

@@ -5,9 +5,9 @@ ghost use Rattle.facet_format.specs.Span.{span_at};
 ghost use Rattle.facet_format.specs.Views.{span_of};
 ghost use Rattle.facet_json_token.specs.Token.{number, string};
 ghost use Rattle.facet_json_token.specs.Views.{mode_of, kind_of, cut_of};
-ghost use Rattle.facet_json_document.specs.Language.{strict, gaps, rules};
-ghost use Rattle.facet_json_document.specs.Place.{led};
-ghost use Rattle.facet_json_document.specs.StrictTokens.{cut_in};
+ghost use Rattle.facet_json_grammar.specs.Language.{strict, gaps, rules};
+ghost use Rattle.facet_json_grammar.specs.Place.{led};
+ghost use Rattle.facet_json_grammar.specs.StrictTokens.{cut_in};
 ghost use Rattle.facet_json_reader.specs.PlaceViews.{language_of, least_of, place_of, HasSlices, IsJudged};
 
 use crate::place::Place;

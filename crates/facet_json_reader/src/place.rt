@@ -3,8 +3,8 @@
 ghost use Rattle.std.specs.Prelude.{◌≡◌, true, Some};
 ghost use Rattle.facet_json_token.specs.Token.{Kind};
 ghost use Rattle.facet_json_token.specs.Views.{kind_of};
-ghost use Rattle.facet_json_document.specs.Place.{root, after_colon, before_key, after_member, before_item, after_item, next_key};
-ghost use Rattle.facet_json_document.specs.Place.{next_item, complaint_at_end, expected_at};
+ghost use Rattle.facet_json_grammar.specs.Place.{root, after_colon, before_key, after_member, before_item, after_item, next_key};
+ghost use Rattle.facet_json_grammar.specs.Place.{next_item, complaint_at_end, expected_at};
 ghost use Rattle.facet_json_reader.specs.Inner.Sorts.{kind_by, sort_by};
 ghost use Rattle.facet_json_reader.specs.PlaceViews.{place_of, turn_of, turn_by, expected_text, why_of, is_string_token};
 

@@ -6,8 +6,8 @@ ghost use Rattle.facet_format.specs.Event.{Scalar, Text, scalar, field_key, borr
 ghost use Rattle.facet_format.specs.Span.{Span as SpecSpan, stop, span_at};
 ghost use Rattle.facet_format.specs.Views.{span_of};
 ghost use Rattle.facet_json_token.specs.Token.{string};
-ghost use Rattle.facet_json_document.specs.Language.{Language as SpecLanguage};
-ghost use Rattle.facet_json_document.specs.Place.{Place as SpecPlace, names, place_turn};
+ghost use Rattle.facet_json_grammar.specs.Language.{Language as SpecLanguage};
+ghost use Rattle.facet_json_grammar.specs.Place.{Place as SpecPlace, names, place_turn};
 ghost use Rattle.facet_json_reader.specs.PlaceViews.{language_of, least_of, place_of, opening_event, closing_event, closing_token};
 ghost use Rattle.facet_json_reader.specs.PlaceViews.{opening_bracket, closing_bracket};
 ghost use Rattle.facet_json_reader.specs.Values.{AreUnescaped, IsPlainText};

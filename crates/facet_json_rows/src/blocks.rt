@@ -39,7 +39,8 @@ pub fn answer_blocks(alloc: Global, modes: &[Mode], text: &str, told: &mut Told)
     }
 }
 
-/// Where a skip of the root ends, or its refusal, counted from the end of the repeated part; nothing where white space after it changes that.
+/// Where a skip of the root ends, or its refusal, counted from the end of the repeated part; nothing where white space after it changes
+/// that.
 type Ending = Option<Result<usize, ParseError<'static>>>;
 
 /// Tells where the skip ends for each number of times from which on it ends elsewhere.

@@ -9,8 +9,8 @@ use facet_json::scanner::{
     NumberHint, ParsedNumber, ScanError, parse_number, parse_number_unchecked,
 };
 
-/// Tells the number at a range of the buffer, or the refusal: `HINT` or `HINT START..END`. Where the reader of text that is known to be UTF-8
-/// reads another, that is told.
+/// Tells the number at a range of the buffer, or the refusal: `HINT` or `HINT START..END`. Where the reader of text that is known to be
+/// UTF-8 reads another, that is told.
 pub fn answer_number(words: &str, buffer: &[u8], told: &mut Told) {
     let (name, at) = first_word(words);
     let (Some(hint), Some((start, end))) = (hint(name), range(at, buffer.len())) else {

@@ -13,8 +13,8 @@ enum Escape {
     Digit(u8),
 }
 
-/// Whether `printf` writes the text, and there is memory for its bytes, which are appended: it has no escapes but `\\`, `\n`, `\r`, `\t` and
-/// `\xHH`, and no percent sign.
+/// Whether `printf` writes the text, and there is memory for its bytes, which are appended: it has no escapes but `\\`, `\n`, `\r`, `\t`
+/// and `\xHH`, and no percent sign.
 pub fn is_printed(text: &str, bytes: &mut Vec<u8>) -> bool {
     let mut escape = Escape::Outside;
     for byte in text.bytes() {

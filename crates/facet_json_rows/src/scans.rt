@@ -25,7 +25,8 @@ pub struct Scan<'a> {
     step: usize,
 }
 
-/// Tells where scans of the input in pieces, in either mode, find other tokens than are cut of the whole, or do not tell of a read that fails.
+/// Tells where scans of the input in pieces, in either mode, find other tokens than are cut of the whole, or do not tell of a read that
+/// fails.
 fn write_other_scans(alloc: Global, input: &[u8], told: &mut Told) {
     for step in &STEPS {
         if !(tells(alloc, input, Mode::Plain, *step) && tells(alloc, input, Mode::Jsonc, *step)) {

@@ -1,7 +1,7 @@
 -- The calls of a value that is begun, as it goes on.
 use Rattle.std.proofs.Common.{◌≡◌, ℕ, List, [], ◌∷◌, ◌++◌, Some, None, refl, sym, ap, ◌∙◌, append_assoc, append-nil}
 use Rattle.std.proofs.lemmas.Bool.{true≢false}
-use Rattle.facet_json_document.specs.Tree.{Tree, list, pairs, Trees, no_trees, tree, Pairs, no_pairs, pair}
+use Rattle.facet_json_grammar.specs.Tree.{Tree, list, pairs, Trees, no_trees, tree, Pairs, no_pairs, pair}
 use Rattle.facet_format.specs.SerializerCall.{begin_struct, field_key, end_struct, begin_seq, end_seq}
 use Rattle.facet_json_serializer.specs.TreeCalls.{tree_calls, item_calls, member_calls}
 use Rattle.facet_json_serde.specs.Begun.{in_items, in_members, levels_calls, with_item, with_pair, ValueStands, KeyBegins, ListBegins, StructBegins, ListEnds, StructEnds}

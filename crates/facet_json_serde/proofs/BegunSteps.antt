@@ -4,8 +4,8 @@ use Rattle.std.proofs.lemmas.Bool.{true≢false}
 use Rattle.std.proofs.lemmas.Option.{same_Some}
 use mathlib.Core.Logic.{∥∥₁_map}
 use Rattle.facet_format.specs.SerializerCall.{SerializerCall, begin_struct, field_key, end_struct, begin_seq, end_seq, scalar, raw_scalar, TakesAll, IsServed}
-use Rattle.facet_json_document.specs.Text.{Options, text}
-use Rattle.facet_json_document.specs.Tree.{Tree, list, pairs, Trees, no_trees, tree, Pairs, no_pairs, pair}
+use Rattle.facet_json_grammar.specs.Text.{Options, text}
+use Rattle.facet_json_grammar.specs.Tree.{Tree, list, pairs, Trees, no_trees, tree, Pairs, no_pairs, pair}
 use Rattle.facet_json_serializer.specs.Serializer.{Writing, WriteRefusal, addition, Takes, Appends, appends, refuses, runs_out, stays_out, IsSpent}
 use Rattle.facet_json_serializer.specs.TreeCalls.{tree_calls}
 use Rattle.facet_json_serializer.proofs.CallsTaken.{tree_taken}
@@ -14,11 +14,11 @@ use Rattle.facet_json_serde.specs.declared.stage.Stage.TheVariants.{Value, Whole
 use Rattle.facet_json_serde.specs.Begun.{IsFormed, Level, in_items, in_members, Begun, within, whole, levels_calls, begun_calls, awaits_value, AreSound, with_item, with_pair, put}
 use Rattle.facet_format.specs.Event.{Scalar, borrowed, owned}
 use Rattle.facet_format.specs.Event as event
-use Rattle.facet_json_document.specs.Tree as trees
+use Rattle.facet_json_grammar.specs.Tree as trees
 use Rattle.std.specs.Str.{is_utf8}
-use Rattle.facet_json_document.specs.AsRead.{WellFormed, ItemsWellFormed, MembersWellFormed, RawParts, RawItems, RawMembers, IsBlankIndent}
-use Rattle.facet_json_document.specs.ReadBack.{IsReadBack}
-use Rattle.facet_json_document.proofs.Values.TreeTexts.{written_is_read}
+use Rattle.facet_json_grammar.specs.AsRead.{WellFormed, ItemsWellFormed, MembersWellFormed, RawParts, RawItems, RawMembers, IsBlankIndent}
+use Rattle.facet_json_grammar.specs.ReadBack.{IsReadBack}
+use Rattle.facet_json_grammar.proofs.Values.TreeTexts.{written_is_read}
 use Rattle.facet_json_serde.specs.OneValue.{IsTree, takes_value, stage_after_value, stage_within, stage_begun, stages_around, around_of, sound_of, BegunValue, IsBegun, IsTextOfTree}
 use Rattle.facet_json_serde.proofs.BegunCalls.{value_stands, key_begins, list_begins, struct_begins, list_ends, struct_ends}
 

@@ -1,9 +1,9 @@
 -- What is read, said in the words of a step.
 use Rattle.std.proofs.Common.{ℕ, true, false, List}
 use Rattle.facet_format.specs.Event.{Event}
-use Rattle.facet_json_document.specs.Move.{with_kept}
-use Rattle.facet_json_document.specs.Next.{PassesNext}
-use Rattle.facet_json_document.specs.Now.{Now}
+use Rattle.facet_json_grammar.specs.Move.{with_kept}
+use Rattle.facet_json_grammar.specs.Next.{PassesNext}
+use Rattle.facet_json_grammar.specs.Now.{Now}
 use Rattle.serde.specs.Names.{Finds}
 use Rattle.serde.specs.declared.name.Name.{Name}
 use Rattle.facet_json_serde.specs.declared.json.Json.{Json}

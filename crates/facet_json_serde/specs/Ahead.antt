@@ -7,8 +7,8 @@ use Rattle.std.specs.Float.Parse.{parse_float}
 use Rattle.facet_format.specs.Event.{Event, EventKind, struct_start, struct_end, sequence_start, sequence_end, field_key, scalar, null, bool, i64, u64, decimal, text, bytes_of}
 use Rattle.facet_format.specs.Span.{Span, stop}
 use Rattle.facet_format.specs.Views.{event_of}
-use Rattle.facet_json_document.specs.Now.{Now}
-use Rattle.facet_json_document.specs.Next.{PassesNext}
+use Rattle.facet_json_grammar.specs.Now.{Now}
+use Rattle.facet_json_grammar.specs.Next.{PassesNext}
 use Rattle.serde.specs.Event as serde
 use Rattle.serde.specs.Names.{Finds}
 use Rattle.serde.specs.declared.name.Name.{Name}

@@ -6,13 +6,13 @@ use Rattle.std.specs.List.{list_all}
 use Rattle.std.specs.Str.{is_utf8}
 use Rattle.facet_format.specs.Number.{float}
 use Rattle.facet_format.specs.NumberValue.{number, decimal}
-use Rattle.facet_json_document.specs.AsRead.{FitsBits, IsBlankIndent}
-use Rattle.facet_json_document.specs.ReadBack.{IsReadBack}
+use Rattle.facet_json_grammar.specs.AsRead.{FitsBits, IsBlankIndent}
+use Rattle.facet_json_grammar.specs.ReadBack.{IsReadBack}
 use Rattle.facet_format.specs.Event.{Scalar, borrowed, owned}
 use Rattle.facet_format.specs.Event as event
 use Rattle.facet_format.specs.SerializerCall.{TakesAll}
-use Rattle.facet_json_document.specs.Text.{Options, text}
-use Rattle.facet_json_document.specs.Tree.{Tree}
+use Rattle.facet_json_grammar.specs.Text.{Options, text}
+use Rattle.facet_json_grammar.specs.Tree.{Tree}
 use Rattle.facet_json_serializer.specs.Serializer.{Writing, Takes}
 use Rattle.facet_json_serde.specs.declared.stage.Stage.{Stage}
 use Rattle.facet_json_serde.specs.declared.stage.Stage.TheVariants.{Value, Whole, Item, Key, Named}

@@ -3,8 +3,8 @@
 ghost use Rattle.std.specs.Prelude.{◌≡◌, true, [], IfOk, IfSome, OnOk, MatchBool, MatchOption};
 ghost use Rattle.std.specs.Cow.{cow_str_bytes};
 ghost use Rattle.facet_format.specs.Views.{event_of, span_of};
-ghost use Rattle.facet_json_document.specs.Move.{with_kept};
-ghost use Rattle.facet_json_document.specs.Next.{PassesNext};
+ghost use Rattle.facet_json_grammar.specs.Move.{with_kept};
+ghost use Rattle.facet_json_grammar.specs.Next.{PassesNext};
 ghost use Rattle.facet_json_reader.specs.Inner.Soughts.{event_of_member};
 ghost use Rattle.serde.specs.Event.{nothing, map_ends};
 ghost use Rattle.facet_json_serde.specs.Ahead.{JsonStands, Stays, StepReads, StepPasses, StepGives, HoldsText, HoldsKey};

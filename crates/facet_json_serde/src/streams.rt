@@ -1,7 +1,7 @@
 //! Values from a reader of bytes, and their text to a writer.
 
 ghost use Rattle.std.specs.Prelude.{◌≡◌, length, IfErr, IfSome, OnOk};
-ghost use Rattle.facet_json_document.specs.Text.{default_options};
+ghost use Rattle.facet_json_grammar.specs.Text.{default_options};
 ghost use Rattle.facet_json_serializer.specs.OptionsViews.{options_of};
 ghost use Rattle.facet_json_serde.specs.declared.streams.StreamError.TheVariants as stream;
 ghost use Rattle.facet_json_serde.specs.Messages.{stream_message};

@@ -1,7 +1,7 @@
 //! The JSON text of a value, as bytes or as a `String`.
 
 ghost use Rattle.std.specs.Prelude.{true, string_bytes, IfOk};
-ghost use Rattle.facet_json_document.specs.Text.{default_options};
+ghost use Rattle.facet_json_grammar.specs.Text.{default_options};
 ghost use Rattle.facet_json_serializer.specs.OptionsViews.{options_of};
 ghost use Rattle.facet_json_serde.specs.OneValue.{IsTextOfTree};
 

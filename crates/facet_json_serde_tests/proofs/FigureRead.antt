@@ -1,6 +1,6 @@
 -- What was read in the words of any format, in those of JSON.
 use Rattle.std.proofs.Common.{ℕ}
-use Rattle.facet_json_document.specs.Now.{Now}
+use Rattle.facet_json_grammar.specs.Now.{Now}
 use Rattle.serde.specs.Steps.{format_of}
 use Rattle.serde.specs.declared.deserializer.Deserializer.{Deserializer}
 use Rattle.facet_json_serde.specs.declared.json.Json.{Json}

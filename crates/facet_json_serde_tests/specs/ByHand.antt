@@ -1,8 +1,8 @@
 -- What is read by hand.
 use Rattle.std.specs.Prelude.{◌≡◌, ℕ, List, None}
 use Rattle.facet_format.specs.Event.{Event as ParserEvent}
-use Rattle.facet_json_document.specs.Now.{Now}
-use Rattle.facet_json_document.specs.Next.{PassesNext}
+use Rattle.facet_json_grammar.specs.Now.{Now}
+use Rattle.facet_json_grammar.specs.Next.{PassesNext}
 use Rattle.serde.specs.Event.{Event, unsigned, seq_begins, seq_ends}
 use Rattle.serde.specs.Steps.{Gives, Stays, format_of}
 use Rattle.serde.specs.declared.deserializer.Deserializer.{Deserializer}

@@ -1,6 +1,6 @@
 -- Numbers and indents that are written one after the other.
 use Rattle.std.proofs.Common.{◌≡◌, ℕ, zero, suc, Bool, true, false, List, ◌++◌, sym, ap, ◌∙◌, append_assoc, append-nil}
-use Rattle.facet_json_document.specs.Text.{numbers, more_numbers, indents}
+use Rattle.facet_json_grammar.specs.Text.{numbers, more_numbers, indents}
 
 -- so many indents and one more
 pub indents-one_more : (n : ℕ) (indent : List ℕ) → indents n indent ++ indent ≡ indents (suc n) indent

@@ -1,10 +1,10 @@
 -- A tree's calls append its text.
 use Rattle.std.proofs.Common.{◌≡◌, ℕ, suc, Bool, true, false, List, [], ◌∷◌, ◌++◌, length, refl, sym, ap, ◌∙◌, append_assoc, append-nil}
 use Rattle.facet_format.specs.Bytes.{left_bracket, left_brace}
-use Rattle.facet_json_document.specs.Quoted.{quoted}
-use Rattle.facet_json_document.specs.Text.{Options, text, items_text, members_text, new_line, separator, colon_text}
-use Rattle.facet_json_document.specs.Tree.{Tree, null, unit, bool, char, i64, u64, i128, u128, decimal, bytes, raw, list, pairs, Trees, no_trees, tree, Pairs, no_pairs, pair}
-use Rattle.facet_json_document.specs.Tree as trees
+use Rattle.facet_json_grammar.specs.Quoted.{quoted}
+use Rattle.facet_json_grammar.specs.Text.{Options, text, items_text, members_text, new_line, separator, colon_text}
+use Rattle.facet_json_grammar.specs.Tree.{Tree, null, unit, bool, char, i64, u64, i128, u128, decimal, bytes, raw, list, pairs, Trees, no_trees, tree, Pairs, no_pairs, pair}
+use Rattle.facet_json_grammar.specs.Tree as trees
 use Rattle.facet_format.specs.SerializerCall.{SerializerCall, end_seq, end_struct}
 use Rattle.facet_json_serializer.specs.Serializer.{Opened, in_struct, in_list, Writing, before_value, after_written}
 use Rattle.facet_json_serializer.specs.TreeCalls.{after_calls, tree_calls, item_calls, member_calls, TreeByCalls}

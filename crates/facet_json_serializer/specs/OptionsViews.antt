@@ -2,7 +2,7 @@
 use Rattle.facet_json_serializer.specs.declared.options.BytesFormat.{BytesFormat as RustFormat}
 use Rattle.facet_json_serializer.specs.declared.options.BytesFormat.TheVariants as format
 use Rattle.facet_json_serializer.specs.declared.options.SerializeOptions.{SerializeOptions}
-use Rattle.facet_json_document.specs.Text.{BytesFormat, as_array, as_hex, Options}
+use Rattle.facet_json_grammar.specs.Text.{BytesFormat, as_array, as_hex, Options}
 
 abbrev pub bytes_format_of : RustFormat → BytesFormat
 bytes_format_of format.Array = as_array

@@ -4,10 +4,10 @@ use Rattle.facet_format.specs.Bytes.{left_bracket, right_bracket, left_brace, ri
 use Rattle.facet_format.specs.Event.{Scalar, bytes_of}
 use Rattle.facet_format.specs.Event as event
 use Rattle.facet_format.specs.SerializerCall.{SerializerCall, begin_struct, field_key, end_struct, begin_seq, end_seq, scalar, raw_scalar, byte_sequence, byte_array}
-use Rattle.facet_json_document.specs.Quoted.{quoted}
-use Rattle.facet_json_document.specs.Text.{Options, text, bytes_text, new_line, separator, line_at_end, colon_text}
-use Rattle.facet_json_document.specs.Tree.{Tree}
-use Rattle.facet_json_document.specs.Tree as tree
+use Rattle.facet_json_grammar.specs.Quoted.{quoted}
+use Rattle.facet_json_grammar.specs.Text.{Options, text, bytes_text, new_line, separator, line_at_end, colon_text}
+use Rattle.facet_json_grammar.specs.Tree.{Tree}
+use Rattle.facet_json_grammar.specs.Tree as tree
 
 -- an open container: a struct or a list, and whether nothing stands in it yet: no key in a struct, no value in a list
 pub data Opened : Type 0 where

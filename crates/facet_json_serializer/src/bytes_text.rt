@@ -2,8 +2,8 @@
 
 ghost use Rattle.std.specs.Prelude.{◌≡◌, ◌≤◌, ◌++◌, ◌∷◌, length, OnOk};
 ghost use Rattle.std.specs.List.{flat_map};
-ghost use Rattle.facet_json_document.specs.Quoted.{hex_byte};
-ghost use Rattle.facet_json_document.specs.Text.{bytes_text, numbers, shortened, hex};
+ghost use Rattle.facet_json_grammar.specs.Quoted.{hex_byte};
+ghost use Rattle.facet_json_grammar.specs.Text.{bytes_text, numbers, shortened, hex};
 ghost use Rattle.facet_json_serializer.specs.OptionsViews.{bytes_format_of};
 
 use crate::append::{push_bytes, push_number};

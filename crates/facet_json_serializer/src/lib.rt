@@ -1,5 +1,5 @@
 //! Writing JSON (RFC 8259) call by call: `JsonSerializer`, how text is laid out and bytes are written (`SerializeOptions`), and how writing
-//! is refused (`JsonSerializeError`). The texts themselves are defined in `facet_json_document`.
+//! is refused (`JsonSerializeError`). The texts themselves are defined in `facet_json_grammar`.
 #![tactic(auto)]
 
 mod append;

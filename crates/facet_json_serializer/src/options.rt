@@ -1,10 +1,10 @@
 //! How text is written: compact or indented, and bytes in which format; and the line breaks and indents that are appended.
 
 ghost use Rattle.std.specs.Prelude.{◌≡◌, true, Option, Some, None, ◌∷◌, ◌++◌, OnOk};
-ghost use Rattle.facet_json_document.specs.Text.{as_array, as_hex, default_options, indents, new_line, separator, line_at_end, colon_text};
+ghost use Rattle.facet_json_grammar.specs.Text.{as_array, as_hex, default_options, indents, new_line, separator, line_at_end, colon_text};
 ghost use Rattle.facet_json_serializer.specs.OptionsViews.{bytes_format_of, options_of};
 ghost use Rattle.facet_format.specs.Bytes.{line_feed};
-ghost use Rattle.facet_json_document.specs.Quoted.{quoted};
+ghost use Rattle.facet_json_grammar.specs.Quoted.{quoted};
 
 use crate::append::push_bytes;
 use facet_json_escape::{Sink, push_framed_here, push_quoted};

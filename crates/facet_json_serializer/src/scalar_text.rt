@@ -3,8 +3,8 @@
 ghost use Rattle.std.specs.Prelude.{◌≡◌, ◌++◌, OnOk};
 ghost use Rattle.std.specs.Char.{encode_utf8};
 ghost use Rattle.facet_format.specs.Views.{scalar_value_of};
-ghost use Rattle.facet_json_document.specs.Quoted.{quoted};
-ghost use Rattle.facet_json_document.specs.Text.{bool_text};
+ghost use Rattle.facet_json_grammar.specs.Quoted.{quoted};
+ghost use Rattle.facet_json_grammar.specs.Text.{bool_text};
 ghost use Rattle.facet_json_serializer.specs.Serializer.{scalar_text};
 ghost use Rattle.facet_json_serializer.specs.OptionsViews.{options_of};
 
@@ -16,7 +16,7 @@ use facet_json_escape::{Sink, push_quoted};
 use std::alloc::AllocError;
 
 /// Appends the text of a value.
-#[tactic(auto, unfolding(facet_json_document::specs::Text::text))]
+#[tactic(auto, unfolding(facet_json_grammar::specs::Text::text))]
 pub(crate) fn push_scalar(
     out: &mut Sink,
     options: &SerializeOptions<'_>,

@@ -2,7 +2,7 @@
 
 ghost use Rattle.std.specs.Prelude.{◌≡◌, [], Some, None, Ok, true, codes, MatchResult, IfOk, IfSome, IsSome};
 ghost use Rattle.facet_format.specs.Views.{scalar_value_of};
-ghost use Rattle.facet_json_document.specs.Text.{default_options};
+ghost use Rattle.facet_json_grammar.specs.Text.{default_options};
 ghost use Rattle.facet_format.specs.SerializerCall.{begin_struct, field_key, end_struct, begin_seq, end_seq, scalar, raw_scalar};
 ghost use Rattle.facet_format.specs.SerializerCall.{byte_sequence, byte_array, IsServed, IsServedOrLeft};
 ghost use Rattle.facet_json_serializer.specs.Serializer.{Writing as SpecWriting, out_of_memory, Appends, Takes, IsSpent};

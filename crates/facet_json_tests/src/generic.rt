@@ -3,9 +3,9 @@
 ghost use Rattle.std.specs.Prelude.{◌≡◌, [], ◌∷◌, IfOk, IsErr};
 ghost use Rattle.facet_format.specs.Event.{u64};
 ghost use Rattle.facet_format.specs.SerializerCall.{begin_seq, end_seq, scalar, TakesAll};
-ghost use Rattle.facet_json_document.specs.Text.{default_options, text};
-ghost use Rattle.facet_json_document.specs.Tree.{list, tree, no_trees};
-ghost use Rattle.facet_json_document.specs.Tree as trees;
+ghost use Rattle.facet_json_grammar.specs.Text.{default_options, text};
+ghost use Rattle.facet_json_grammar.specs.Tree.{list, tree, no_trees};
+ghost use Rattle.facet_json_grammar.specs.Tree as trees;
 
 use facet_format::{FormatSerializer, ScalarValue};
 use facet_json_serializer::{JsonSerializeError, JsonSerializer};

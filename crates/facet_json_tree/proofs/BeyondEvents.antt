@@ -3,8 +3,8 @@ use Rattle.std.proofs.Common.{◌≡◌, ℕ, zero, suc, true, List, [], ◌∷�
 use Rattle.facet_format.specs.Span.{Span}
 use Rattle.facet_format.specs.Event.{ContainerKind, EventKind, struct_start, struct_end, sequence_start, sequence_end, field_key, scalar, Text, Passed}
 use Rattle.facet_json_token.specs.Tokens.{Tokens}
-use Rattle.facet_json_document.specs.Place.{Place}
-use Rattle.facet_json_document.specs.Future.{Future, gives, finished, stuck, events_before}
+use Rattle.facet_json_grammar.specs.Place.{Place}
+use Rattle.facet_json_grammar.specs.Future.{Future, gives, finished, stuck, events_before}
 use Rattle.facet_json_core.specs.Told.{opens}
 use Rattle.facet_json_tree.specs.Depth.{outer, beyond_bracket, beyond_event, events_beyond, beyond}
 use Rattle.facet_json_tree.specs.Inner.Beyond.{inner, Admits, SameBeyond}

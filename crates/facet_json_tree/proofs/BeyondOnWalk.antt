@@ -3,11 +3,11 @@ use Rattle.std.specs.Prelude.{ℕ, List}
 use Rattle.std.proofs.Common.{◌≡◌, ℕ, zero, suc, List, [], ◌∷◌, Option, None, Some, refl, sym, ap, ◌∙◌}
 use Rattle.std.specs.Option.{option_or}
 use Rattle.facet_format.specs.Event.{struct_end, sequence_end}
-use Rattle.facet_json_document.specs.Node.{Node, Nodes, no_nodes, item, Members, no_members, member}
-use Rattle.facet_json_document.specs.Node as node
-use Rattle.facet_json_document.specs.Future.{Future, gives, finished, events_before}
-use Rattle.facet_json_document.specs.Walk.{walk, walk_items, walk_members, event_at}
-use Rattle.facet_json_document.proofs.WalkComes.{events_before-append}
+use Rattle.facet_json_grammar.specs.Node.{Node, Nodes, no_nodes, item, Members, no_members, member}
+use Rattle.facet_json_grammar.specs.Node as node
+use Rattle.facet_json_grammar.specs.Future.{Future, gives, finished, events_before}
+use Rattle.facet_json_grammar.specs.Walk.{walk, walk_items, walk_members, event_at}
+use Rattle.facet_json_grammar.proofs.WalkComes.{events_before-append}
 use Rattle.facet_json_tree.specs.Depth.{first_beyond, first_beyond_items, first_beyond_members, beyond}
 
 or-none : {A : Type 0} (o : Option A) → option_or o None ≡ o

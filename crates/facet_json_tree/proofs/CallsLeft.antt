@@ -1,7 +1,7 @@
 -- Which calls of a tree are still to be made.
 use Rattle.std.proofs.Common.{◌≡◌, List, [], ◌∷◌, ◌++◌, Option, Some, None, Result, Ok, Err, refl, sym, ap, ◌∙◌, subst}
 use Rattle.std.specs.Result.{OnOk, OnErr, IfErr}
-use Rattle.facet_json_document.specs.Tree.{Tree}
+use Rattle.facet_json_grammar.specs.Tree.{Tree}
 use Rattle.facet_json_serializer.specs.declared.error.JsonSerializeError.{JsonSerializeError}
 use Rattle.facet_format.specs.SerializerCall.{SerializerCall}
 use Rattle.facet_json_serializer.specs.Serializer.{Writing, Addition, Misfit, WriteRefusal, out_of_memory, addition, appended, Appends, appends, refuses, runs_out, stays_out}

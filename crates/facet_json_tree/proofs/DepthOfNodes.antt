@@ -2,7 +2,7 @@
 use Rattle.std.proofs.Common.{◌≡◌, ◌≤◌, ℕ, zero, suc, Option, None, Some, refl, arith}
 use Rattle.std.specs.Option.{option_or}
 use Rattle.std.proofs.Math.Nat.{le-max_left, le-max_right, max-le}
-use Rattle.facet_json_document.specs.Node.{Node, scalar, array, object, Nodes, no_nodes, item, Members, no_members, member}
+use Rattle.facet_json_grammar.specs.Node.{Node, scalar, array, object, Nodes, no_nodes, item, Members, no_members, member}
 use Rattle.facet_json_tree.specs.Depth.{depth_of, depth_of_items, depth_of_members, first_beyond, first_beyond_items, first_beyond_members, FirstBeyondIsDeeper}
 
 -- Neither of two is there.

@@ -3,15 +3,15 @@ use Rattle.std.proofs.Common.{◌≡◌, ◌≤◌, ◌⊎◌, inl, inr, ℕ, Li
 use Rattle.facet_format.specs.Complaint.{Refusal}
 use Rattle.facet_format.specs.Span.{Span}
 use Rattle.facet_json_token.specs.Gap.{Mode}
-use Rattle.facet_json_document.specs.Node.{Node}
-use Rattle.facet_json_document.specs.Tree.{Tree}
-use Rattle.facet_json_document.specs.Document.{IsDocument}
-use Rattle.facet_json_document.specs.Future.{finished, events_before}
-use Rattle.facet_json_document.specs.Walk.{walk}
-use Rattle.facet_json_document.specs.Now.{fresh, future_of}
-use Rattle.facet_json_document.specs.EventLaws.{RootComes, document_comes, prefix_comes}
-use Rattle.facet_json_document.proofs.StandsOnWalk.{fresh-stands}
-use Rattle.facet_json_document.proofs.LongestPrefix.{input-comes}
+use Rattle.facet_json_grammar.specs.Node.{Node}
+use Rattle.facet_json_grammar.specs.Tree.{Tree}
+use Rattle.facet_json_grammar.specs.Document.{IsDocument}
+use Rattle.facet_json_grammar.specs.Future.{finished, events_before}
+use Rattle.facet_json_grammar.specs.Walk.{walk}
+use Rattle.facet_json_grammar.specs.Now.{fresh, future_of}
+use Rattle.facet_json_grammar.specs.EventLaws.{RootComes, document_comes, prefix_comes}
+use Rattle.facet_json_grammar.proofs.StandsOnWalk.{fresh-stands}
+use Rattle.facet_json_grammar.proofs.LongestPrefix.{input-comes}
 use Rattle.facet_json_core.specs.Told.{Breaks}
 use Rattle.facet_json_core.specs.Reading.{LacksMemory}
 use Rattle.facet_json_core.proofs.DocumentFromRoot.{read-only, read-document, unread-only}

@@ -3,7 +3,7 @@ use Rattle.std.proofs.Common.{◌≡◌, ◌≢◌, ℕ, Bool, true, false, List
 use Rattle.std.specs.Prelude.{◌&&◌, is_none}
 use Rattle.std.specs.Option.{option_or}
 use Rattle.std.specs.Cmp.Lexicographic.{bytes_decides}
-use Rattle.facet_json_document.specs.Tree.{Tree, Pairs, no_pairs, pair}
+use Rattle.facet_json_grammar.specs.Tree.{Tree, Pairs, no_pairs, pair}
 use Rattle.facet_json_tree.specs.Edit.{set_member, drop_members}
 use Rattle.facet_json_tree.specs.EditLaws.{SetIsFound, SetKeepsOthers, DroppedIsGone, DropKeepsOthers}
 use Rattle.facet_json_tree.specs.Lookup.{last_member}

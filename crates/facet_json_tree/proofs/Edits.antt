@@ -5,8 +5,8 @@ use Rattle.facet_json_tree.proofs.Lookups.{last_member-at}
 use Rattle.std.specs.List.{filter, remove}
 use Rattle.std.specs.Option.{option_or}
 use Rattle.std.specs.Cmp.Lexicographic.{bytes_decides}
-use Rattle.facet_json_document.specs.Tree.{Pairs, no_pairs, pair}
-use Rattle.facet_json_document.specs.Tree as tree
+use Rattle.facet_json_grammar.specs.Tree.{Pairs, no_pairs, pair}
+use Rattle.facet_json_grammar.specs.Tree as tree
 use Rattle.facet_json_tree.specs.Edit.{push_item, drop_item, set_member, drop_members}
 use Rattle.facet_json_tree.specs.Inner.LastNamed.{IsLastNamed}
 use Rattle.facet_json_tree.specs.Lookup.{last_member}

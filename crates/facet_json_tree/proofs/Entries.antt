@@ -1,7 +1,7 @@
 -- Where a new member stands.
 use Rattle.std.proofs.Common.{◌≡◌, ℕ, suc, ◌<◌, List, [], ◌∷◌, length, get_or, None, String, Global, string_bytes, refl, ap, arith}
-use Rattle.facet_json_document.specs.Tree.{no_pairs, pair, Pairs}
-use Rattle.facet_json_document.specs.Tree as tree
+use Rattle.facet_json_grammar.specs.Tree.{no_pairs, pair, Pairs}
+use Rattle.facet_json_grammar.specs.Tree as tree
 use Rattle.facet_json_tree.specs.Edit.{set_member}
 use Rattle.facet_json_tree.specs.Inner.LastNamed.{IsLastNamed}
 use Rattle.facet_json_tree.specs.Inner.WithMember.{with_member}

@@ -2,9 +2,9 @@
 use Rattle.std.proofs.Common.{◌≡◌, ◌≢◌, ◌⊎◌, inl, inr, true, false, Some, refl, ap, ◌∙◌}
 use Rattle.facet_format.specs.Event.{ContainerKind, struct_start, struct_end, sequence_start, sequence_end, field_key, scalar, Scalar, Text, bytes_of, Passed}
 use Rattle.facet_json_token.specs.Tokens.{Tokens}
-use Rattle.facet_json_document.specs.Tree.{Tree, list, pairs, Trees, no_trees, tree, Pairs, no_pairs, pair}
-use Rattle.facet_json_document.specs.Place.{Place}
-use Rattle.facet_json_document.specs.Future.{Future, gives, stuck}
+use Rattle.facet_json_grammar.specs.Tree.{Tree, list, pairs, Trees, no_trees, tree, Pairs, no_pairs, pair}
+use Rattle.facet_json_grammar.specs.Place.{Place}
+use Rattle.facet_json_grammar.specs.Future.{Future, gives, stuck}
 use Rattle.facet_json_core.specs.Told.{tree_of_scalar, opens, begins, is_member, Tells, a_scalar, a_list, an_object, TellsItems, no_item, one_item, TellsMembers, no_member, one_member, Breaks, at_once, in_list, in_object, BreaksItems, in_item, past_item, BreaksMembers, in_key, in_member, past_member}
 
 -- ---- events with which a value begins

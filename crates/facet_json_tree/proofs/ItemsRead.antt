@@ -5,9 +5,9 @@ use Rattle.facet_format.specs.declared.event.ParseEventKind.TheVariants as kinds
 use Rattle.facet_format.specs.Complaint.{Refusal}
 use Rattle.facet_format.specs.Event.{sequence_end, Passed}
 use Rattle.facet_json_token.specs.Tokens.{Tokens}
-use Rattle.facet_json_document.specs.Tree.{Tree, Trees, no_trees, tree}
-use Rattle.facet_json_document.specs.Place.{Place}
-use Rattle.facet_json_document.specs.Future.{Future, gives}
+use Rattle.facet_json_grammar.specs.Tree.{Tree, Trees, no_trees, tree}
+use Rattle.facet_json_grammar.specs.Place.{Place}
+use Rattle.facet_json_grammar.specs.Future.{Future, gives}
 use Rattle.facet_format.specs.Views.{event_kind_of}
 use Rattle.facet_json_tree.specs.Views.{trees_of}
 use Rattle.facet_json_core.specs.Told.{TellsItems, BreaksItems}

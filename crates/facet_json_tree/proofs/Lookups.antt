@@ -2,8 +2,8 @@
 use Rattle.std.proofs.Common.{◌≡◌, ℕ, zero, suc, ◌+◌, ◌<◌, ◌≤◌, false, List, [], ◌∷◌, length, get_or, drop, Some, None, String, Global, string_bytes, refl, sym, ap, ◌∙◌, arith}
 use Rattle.std.proofs.lemmas.List.{get_or_default}
 use Rattle.std.specs.Cmp.Lexicographic.{bytes_decides}
-use Rattle.facet_json_document.specs.Tree.{pair, Pairs}
-use Rattle.facet_json_document.specs.Tree as tree
+use Rattle.facet_json_grammar.specs.Tree.{pair, Pairs}
+use Rattle.facet_json_grammar.specs.Tree as tree
 use Rattle.facet_json_tree.specs.Inner.LastNamed.{IsLastNamed}
 use Rattle.facet_json_tree.specs.Lookup.{last_member, item_at}
 use Rattle.facet_json_tree.specs.Same.{same_bytes}

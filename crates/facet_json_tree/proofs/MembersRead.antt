@@ -6,9 +6,9 @@ use Rattle.facet_json_tree.specs.declared.tree.Tree.{Tree as RustTree}
 use Rattle.facet_format.specs.Complaint.{Refusal}
 use Rattle.facet_format.specs.Event.{struct_end, field_key, Text, bytes_of, Passed}
 use Rattle.facet_json_token.specs.Tokens.{Tokens}
-use Rattle.facet_json_document.specs.Tree.{Tree, Pairs, no_pairs, pair}
-use Rattle.facet_json_document.specs.Place.{Place}
-use Rattle.facet_json_document.specs.Future.{Future, gives}
+use Rattle.facet_json_grammar.specs.Tree.{Tree, Pairs, no_pairs, pair}
+use Rattle.facet_json_grammar.specs.Place.{Place}
+use Rattle.facet_json_grammar.specs.Future.{Future, gives}
 use Rattle.facet_json_tree.specs.Views.{pairs_view, tree_view}
 use Rattle.facet_json_core.specs.Told.{is_member, TellsMembers, BreaksMembers}
 use Rattle.facet_json_core.specs.Reading.{IsValueRead, IsValueUnread}

@@ -2,7 +2,7 @@
 use Rattle.std.proofs.Common.{◌≡◌, ℕ, Bool, true, false, List, Option, Some, None, if◌then◌else◌, refl, ap}
 use Rattle.std.specs.Prelude.{◌&&◌, is_none}
 use Rattle.std.specs.Cmp.Lexicographic.{bytes_decides}
-use Rattle.facet_json_document.specs.Tree.{Tree, Pairs, no_pairs, pair}
+use Rattle.facet_json_grammar.specs.Tree.{Tree, Pairs, no_pairs, pair}
 use Rattle.facet_json_tree.specs.Edit.{set_member}
 use Rattle.facet_json_tree.specs.Lookup.{last_member}
 use Rattle.facet_json_tree.specs.Same.{same_bytes}

@@ -3,7 +3,7 @@ use Rattle.std.proofs.Common.{Some, Ok, refl, arith}
 use Rattle.facet_format.specs.Event.{Event}
 use Rattle.facet_format.specs.Cursor.{next, event}
 use Rattle.facet_format.specs.Steps.{IsStep}
-use Rattle.facet_json_document.specs.Now.{Now, StandsAt}
+use Rattle.facet_json_grammar.specs.Now.{Now, StandsAt}
 use Rattle.facet_json_core.specs.Meaning.Nodes.{KeepsOn}
 use Rattle.facet_json_core.specs.Meaning.Passing.{MovesOn}
 use Rattle.facet_json_core.proofs.Meaning.Keeping.{keeps-then}

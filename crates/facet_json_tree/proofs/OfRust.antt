@@ -7,8 +7,8 @@ use Rattle.std.specs.Result.{OnOk}
 use Rattle.std.specs.Str.{is_utf8}
 use Rattle.std.proofs.lemmas.Bool.{and_from, lt-ltb}
 use mir.Val.{hbits}
-use Rattle.facet_json_document.specs.Tree.{Tree, list, pairs, Trees, no_trees, tree, Pairs, no_pairs, pair}
-use Rattle.facet_json_document.specs.AsRead.{FitsBits, WellFormed, ItemsWellFormed, MembersWellFormed, RawParts, RawItems, RawMembers}
+use Rattle.facet_json_grammar.specs.Tree.{Tree, list, pairs, Trees, no_trees, tree, Pairs, no_pairs, pair}
+use Rattle.facet_json_grammar.specs.AsRead.{FitsBits, WellFormed, ItemsWellFormed, MembersWellFormed, RawParts, RawItems, RawMembers}
 use Rattle.facet_json_tree.specs.Write.{IsOfRust}
 
 -- an item before others

@@ -3,7 +3,7 @@ use Rattle.std.proofs.Common.{◌≡◌, ℕ, ◌+◌, ◌<◌, ◌==◌, Bool, 
 use Rattle.std.specs.Prelude.{option_and_then}
 use Rattle.std.proofs.lemmas.List.{drop_more, drop-drop, drop_at}
 use Rattle.facet_format.specs.Bytes.{slash}
-use Rattle.facet_json_document.specs.Tree.{Tree}
+use Rattle.facet_json_grammar.specs.Tree.{Tree}
 use Rattle.facet_json_tree.specs.Inner.PointerParts.{unescaped, before_slash}
 use Rattle.facet_json_tree.specs.Pointer.{IsToken, IsPointer, child, named}
 use Rattle.facet_json_tree.proofs.PointerTokens.{token-unescaped, before_slash-token}

@@ -1,10 +1,10 @@
 -- What was written is read back.
 use Rattle.std.proofs.Common.{◌≡◌, ℕ, List, Result, Ok, Err, sym, subst}
 use Rattle.std.specs.Prelude.{IfOk}
-use Rattle.facet_json_document.specs.Text.{Options, text}
-use Rattle.facet_json_document.specs.Tree.{Tree}
-use Rattle.facet_json_document.proofs.Values.TreeTexts.{written_is_read}
-use Rattle.facet_json_document.specs.ReadBack.{IsReadBack}
+use Rattle.facet_json_grammar.specs.Text.{Options, text}
+use Rattle.facet_json_grammar.specs.Tree.{Tree}
+use Rattle.facet_json_grammar.proofs.Values.TreeTexts.{written_is_read}
+use Rattle.facet_json_grammar.specs.ReadBack.{IsReadBack}
 use Rattle.facet_json_tree.specs.Write.{IsOfRust, IsReadable}
 
 -- The text of a tree that Rust holds, where one is answered.

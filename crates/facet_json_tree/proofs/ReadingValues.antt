@@ -3,11 +3,11 @@ use Rattle.std.proofs.Common.{◌≡◌, ◌<◌, inl, inr, ℕ, false, List, So
 use Rattle.facet_format.specs.Complaint.{Refusal}
 use Rattle.facet_format.specs.Event.{ContainerKind, struct_start, sequence_start, scalar, Scalar, Passed}
 use Rattle.facet_json_token.specs.Tokens.{Tokens}
-use Rattle.facet_json_document.specs.Tree.{Tree}
-use Rattle.facet_json_document.specs.Place.{Place}
-use Rattle.facet_json_document.specs.Refusal.{IsStuck}
-use Rattle.facet_json_document.specs.Future.{Future, gives, stuck}
-use Rattle.facet_json_document.specs.Now.{Now, ahead, future_of}
+use Rattle.facet_json_grammar.specs.Tree.{Tree}
+use Rattle.facet_json_grammar.specs.Place.{Place}
+use Rattle.facet_json_grammar.specs.Refusal.{IsStuck}
+use Rattle.facet_json_grammar.specs.Future.{Future, gives, stuck}
+use Rattle.facet_json_grammar.specs.Now.{Now, ahead, future_of}
 use Rattle.facet_json_core.specs.Told.{tree_of_scalar, opens}
 use Rattle.facet_json_core.specs.Reading.{LacksMemory, LacksOrStops, GivesNone, lacks_memory, at_the_end, is_stuck, IsReadBy, IsUnreadBy, IsValueRead, IsValueUnread}
 use Rattle.facet_json_tree.specs.Inner.Reading.{WentOn, AreItemsUnread, AreMembersUnread}

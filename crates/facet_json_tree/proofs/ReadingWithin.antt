@@ -3,11 +3,11 @@ use Rattle.std.proofs.Common.{◌≡◌, ◌≢◌, ◌⊎◌, inl, inr, ℕ, tr
 use Rattle.facet_format.specs.Complaint.{Refusal}
 use Rattle.facet_format.specs.Event.{Event, sequence_end, field_key, Text, Passed}
 use Rattle.facet_json_token.specs.Tokens.{Tokens}
-use Rattle.facet_json_document.specs.Tree.{Tree, Trees, no_trees, Pairs, no_pairs, list, pairs}
-use Rattle.facet_json_document.specs.Place.{Place}
-use Rattle.facet_json_document.specs.Future.{Future, gives}
-use Rattle.facet_json_document.specs.Now.{Now, future_of}
-use Rattle.facet_json_document.specs.Next.{PassesNext}
+use Rattle.facet_json_grammar.specs.Tree.{Tree, Trees, no_trees, Pairs, no_pairs, list, pairs}
+use Rattle.facet_json_grammar.specs.Place.{Place}
+use Rattle.facet_json_grammar.specs.Future.{Future, gives}
+use Rattle.facet_json_grammar.specs.Now.{Now, future_of}
+use Rattle.facet_json_grammar.specs.Next.{PassesNext}
 use Rattle.facet_json_core.specs.Told.{opens, is_member, BreaksItems, BreaksMembers}
 use Rattle.facet_json_core.specs.Reading.{LacksMemory, GivesNone, lacks_memory, at_the_end, is_stuck, IsUnreadBy}
 use Rattle.facet_json_tree.specs.Depth.{outer, beyond}

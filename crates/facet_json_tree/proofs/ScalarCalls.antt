@@ -3,8 +3,8 @@ use Rattle.std.proofs.Common.{◌≡◌, ℕ, List, ◌++◌, length, Option, So
 use Rattle.std.specs.Result.{OnOk}
 use Rattle.facet_format.specs.Event.{Scalar}
 use Rattle.facet_format.specs.Event as event
-use Rattle.facet_json_document.specs.Text.{Options, text}
-use Rattle.facet_json_document.specs.Tree.{Tree}
+use Rattle.facet_json_grammar.specs.Text.{Options, text}
+use Rattle.facet_json_grammar.specs.Tree.{Tree}
 use Rattle.facet_json_serializer.specs.declared.error.JsonSerializeError.{JsonSerializeError}
 use Rattle.facet_format.specs.SerializerCall.{SerializerCall, scalar, raw_scalar}
 use Rattle.facet_json_serializer.specs.Serializer.{Opened, Writing, WriteRefusal, out_of_memory, addition, appended, before_value, after_written, scalar_tree, scalar_text, Appends, appends, refuses, runs_out, stays_out}

@@ -2,9 +2,9 @@
 use Rattle.std.proofs.Common.{◌≡◌, ℕ, suc, Bool, true, false, List, [], ◌∷◌, ◌++◌, append_assoc, append-nil, codes, refl, sym, ap, ap₂, ◌∙◌}
 use Rattle.std.specs.Fmt.{decimal as number}
 use Rattle.facet_format.specs.Bytes.{comma, colon, left_bracket, left_brace}
-use Rattle.facet_json_document.specs.Quoted.{quoted}
-use Rattle.facet_json_document.specs.Text.{default_options, text, items_text, members_text, separator, numbers, more_numbers}
-use Rattle.facet_json_document.specs.Tree.{Tree, null, unit, bool, char, i64, u64, i128, u128, decimal, text as text_value, bytes, raw, list, pairs, Trees, no_trees, tree, Pairs, no_pairs, pair}
+use Rattle.facet_json_grammar.specs.Quoted.{quoted}
+use Rattle.facet_json_grammar.specs.Text.{default_options, text, items_text, members_text, separator, numbers, more_numbers}
+use Rattle.facet_json_grammar.specs.Tree.{Tree, null, unit, bool, char, i64, u64, i128, u128, decimal, text as text_value, bytes, raw, list, pairs, Trees, no_trees, tree, Pairs, no_pairs, pair}
 
 -- ---- how deep a value stands makes no difference
 

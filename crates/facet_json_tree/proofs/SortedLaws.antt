@@ -4,7 +4,7 @@ use Rattle.std.specs.Prelude.{⊤, option_map}
 use Rattle.std.specs.Option.{option_or}
 use Rattle.std.specs.Cmp.Lexicographic.{bytes_decides, nat_list_cmp_total}
 use Rattle.std.proofs.lemmas.List.Sorted.{ranks_by}
-use Rattle.facet_json_document.specs.Tree.{Tree, null, unit, bool, char, i64, u64, i128, u128, decimal, text, bytes, raw, list, pairs, Pairs, no_pairs, pair}
+use Rattle.facet_json_grammar.specs.Tree.{Tree, null, unit, bool, char, i64, u64, i128, u128, decimal, text, bytes, raw, list, pairs, Pairs, no_pairs, pair}
 use Rattle.facet_json_tree.specs.Lookup.{last_member}
 use Rattle.facet_json_tree.specs.Same.{same_bytes}
 use Rattle.facet_json_tree.specs.Sorted.{is_before, put_member, in_order, sorted, values_sorted}

@@ -4,8 +4,8 @@ use Rattle.std.specs.Cmp.{IsStrictWeakOrder}
 use Rattle.std.specs.Cmp.Lexicographic.{nat_list_cmp_total}
 use Rattle.std.specs.List.Sorted.{IsSortedBy, IsStableBy}
 use Rattle.std.proofs.lemmas.List.Sorted.{ranks_by}
-use Rattle.facet_json_document.specs.Tree.{Pairs, no_pairs, pair, Trees, no_trees}
-use Rattle.facet_json_document.specs.Tree as tree
+use Rattle.facet_json_grammar.specs.Tree.{Pairs, no_pairs, pair, Trees, no_trees}
+use Rattle.facet_json_grammar.specs.Tree as tree
 use Rattle.facet_json_tree.specs.Sorted.{is_before, put_member, in_order, sorted, items_sorted, values_sorted}
 use Rattle.facet_json_tree.specs.Views.{tree_view, trees_view, pairs_view}
 use Rattle.facet_json_tree.specs.declared.tree.Tree.{Tree}

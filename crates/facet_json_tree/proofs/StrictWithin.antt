@@ -3,14 +3,14 @@ use Rattle.std.proofs.Common.{◌≡◌, ◌≤◌, ◌⊎◌, ℕ, List, Option
 use Rattle.facet_format.specs.Complaint.{Refusal}
 use Rattle.facet_format.specs.Span.{Span}
 use Rattle.facet_json_token.specs.Gap.{plain}
-use Rattle.facet_json_document.specs.Future.{Future, finished, events_before}
-use Rattle.facet_json_document.specs.Language.{strict}
-use Rattle.facet_json_document.specs.Node.{Node}
-use Rattle.facet_json_document.specs.StrictDocument.{IsStrictDocument}
-use Rattle.facet_json_document.specs.Tree.{Tree}
-use Rattle.facet_json_document.specs.Walk.{walk}
-use Rattle.facet_json_document.specs.Now.{fresh_in, future_of}
-use Rattle.facet_json_document.proofs.StrictAnswered.{strict-stands}
+use Rattle.facet_json_grammar.specs.Future.{Future, finished, events_before}
+use Rattle.facet_json_grammar.specs.Language.{strict}
+use Rattle.facet_json_grammar.specs.Node.{Node}
+use Rattle.facet_json_grammar.specs.StrictDocument.{IsStrictDocument}
+use Rattle.facet_json_grammar.specs.Tree.{Tree}
+use Rattle.facet_json_grammar.specs.Walk.{walk}
+use Rattle.facet_json_grammar.specs.Now.{fresh_in, future_of}
+use Rattle.facet_json_grammar.proofs.StrictAnswered.{strict-stands}
 use Rattle.facet_json_core.specs.Reading.{LacksMemory}
 use Rattle.facet_json_core.proofs.StrictFromRoot.{strict-read, strict-read_only, strict-unread_only}
 use Rattle.facet_json_tree.specs.Depth.{depth_of, first_beyond, too_deep_at}

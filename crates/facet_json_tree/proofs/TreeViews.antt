@@ -2,7 +2,7 @@
 use Rattle.std.proofs.Common.{◌≡◌, ℕ, suc, ◌+◌, ◌<◌, Bool, List, [], ◌∷◌, ◌++◌, length, get_or, drop, refl, sym, ap, ◌∙◌, rules, Vec, String, Global, string_bytes}
 use Rattle.std.specs.Prelude.{ℤ}
 use Rattle.std.proofs.lemmas.List.{drop_more}
-use Rattle.facet_json_document.specs.Tree as tree
+use Rattle.facet_json_grammar.specs.Tree as tree
 use Rattle.facet_json_tree.specs.Views.{tree_view, trees_view, pairs_view}
 use Rattle.facet_json_tree.specs.declared.tree.Tree.{Tree, the_lemmas}
 use Rattle.facet_json_tree.specs.declared.tree.Tree.TheVariants as code

@@ -9,10 +9,10 @@ use Rattle.std.proofs.lemmas.Bool.Decides.{nat_tests}
 use Rattle.std.proofs.lemmas.Str.{IsUtf8-append, IsUtf8-nil, IsUtf8-encode}
 use Rattle.facet_format.specs.Bytes.{quote}
 use Rattle.facet_format.proofs.AsciiTexts.{ascii-before}
-use Rattle.facet_json_document.specs.Quoted.{escaped, quoted, hex_digit, hex_byte}
-use Rattle.facet_json_document.specs.Text.{BytesFormat, as_array, as_hex, Options, more_numbers, numbers, shortened, hex, bytes_text, indents, new_line, separator, line_at_end, colon_text, bool_text}
-use Rattle.facet_json_document.specs.TextLaws.{escaped_character}
-use Rattle.facet_json_document.proofs.Writing.QuotedByCharacters.{quoted_by_characters}
+use Rattle.facet_json_grammar.specs.Quoted.{escaped, quoted, hex_digit, hex_byte}
+use Rattle.facet_json_grammar.specs.Text.{BytesFormat, as_array, as_hex, Options, more_numbers, numbers, shortened, hex, bytes_text, indents, new_line, separator, line_at_end, colon_text, bool_text}
+use Rattle.facet_json_grammar.specs.TextLaws.{escaped_character}
+use Rattle.facet_json_grammar.proofs.Writing.QuotedByCharacters.{quoted_by_characters}
 
 -- one text or another
 either-IsUtf8 : (b : Bool) (xs ys : List ℕ) → IsUtf8 xs → IsUtf8 ys → IsUtf8 (cond b xs ys)

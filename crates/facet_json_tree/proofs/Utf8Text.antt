@@ -10,11 +10,11 @@ use Rattle.facet_format.specs.NumberParts.{is_number, parts}
 use Rattle.facet_format.specs.NumberValue as numbers
 use Rattle.facet_format.proofs.NumberText.{number-IsUtf8}
 use Rattle.facet_format.proofs.AsciiTexts.{ascii-before}
-use Rattle.facet_json_document.specs.Quoted.{quoted}
-use Rattle.facet_json_document.specs.Text.{Options, text, items_text, members_text, new_line, separator, line_at_end, colon_text}
-use Rattle.facet_json_document.specs.Tree.{Tree, null, unit, bool, char, i64, u64, i128, u128, decimal, bytes, raw, list, pairs, Trees, no_trees, tree, Pairs, no_pairs, pair}
-use Rattle.facet_json_document.specs.Tree as trees
-use Rattle.facet_json_document.specs.AsRead.{WellFormed, ItemsWellFormed, MembersWellFormed, RawParts, RawItems, RawMembers}
+use Rattle.facet_json_grammar.specs.Quoted.{quoted}
+use Rattle.facet_json_grammar.specs.Text.{Options, text, items_text, members_text, new_line, separator, line_at_end, colon_text}
+use Rattle.facet_json_grammar.specs.Tree.{Tree, null, unit, bool, char, i64, u64, i128, u128, decimal, bytes, raw, list, pairs, Trees, no_trees, tree, Pairs, no_pairs, pair}
+use Rattle.facet_json_grammar.specs.Tree as trees
+use Rattle.facet_json_grammar.specs.AsRead.{WellFormed, ItemsWellFormed, MembersWellFormed, RawParts, RawItems, RawMembers}
 use Rattle.facet_json_tree.specs.Write.{IsOfRust}
 use Rattle.facet_json_tree.proofs.Utf8Parts.{ascii-IsUtf8, decimal-IsUtf8, signed-IsUtf8, quoted-IsUtf8, bytes-IsUtf8, new_line-IsUtf8, separator-IsUtf8, line_at_end-IsUtf8, colon-IsUtf8, bool-IsUtf8}
 

@@ -6,12 +6,12 @@ use Rattle.facet_format.specs.Complaint.{Refusal}
 use Rattle.facet_format.specs.Cursor.{next, event}
 use Rattle.facet_format.specs.Event.{Event, EventKind, Scalar, scalar, null, unit, bool, char, i64, u64, i128, u128, decimal, text, bytes, struct_start, struct_end, sequence_start, sequence_end, field_key, Passed}
 use Rattle.facet_json_token.specs.Tokens.{Tokens}
-use Rattle.facet_json_document.specs.Tree.{Tree, Trees, no_trees, Pairs, no_pairs, list, pairs}
-use Rattle.facet_json_document.specs.Place.{Place}
-use Rattle.facet_json_document.specs.Future.{Future, gives}
-use Rattle.facet_json_document.specs.Now.{Now}
-use Rattle.facet_json_document.specs.Move.{Moves}
-use Rattle.facet_json_document.specs.Next.{PassesNext}
+use Rattle.facet_json_grammar.specs.Tree.{Tree, Trees, no_trees, Pairs, no_pairs, list, pairs}
+use Rattle.facet_json_grammar.specs.Place.{Place}
+use Rattle.facet_json_grammar.specs.Future.{Future, gives}
+use Rattle.facet_json_grammar.specs.Now.{Now}
+use Rattle.facet_json_grammar.specs.Move.{Moves}
+use Rattle.facet_json_grammar.specs.Next.{PassesNext}
 use Rattle.facet_json_core.specs.Told.{tree_of_scalar, opens, begins}
 use Rattle.facet_json_core.specs.Reading.{LacksMemory, IsUnreadBy, IsValueUnread}
 use Rattle.facet_json_core.proofs.Meaning.OneValue.EventsPassed.{next-passes_by_kind}

@@ -2,10 +2,10 @@
 use Rattle.std.proofs.Common.{◌≡◌, ℕ, List, Option, Some, Ok, ◌∙◌, subst}
 use Rattle.facet_format.specs.Cursor.{next, event}
 use Rattle.facet_format.specs.Event.{array, object, Event, EventKind, Scalar}
-use Rattle.facet_json_document.specs.Tree.{Tree, list, pairs}
-use Rattle.facet_json_document.specs.Move.{Moves}
-use Rattle.facet_json_document.specs.Next.{PassesNext}
-use Rattle.facet_json_document.specs.Now.{Now, SameInput}
+use Rattle.facet_json_grammar.specs.Tree.{Tree, list, pairs}
+use Rattle.facet_json_grammar.specs.Move.{Moves}
+use Rattle.facet_json_grammar.specs.Next.{PassesNext}
+use Rattle.facet_json_grammar.specs.Now.{Now, SameInput}
 use Rattle.facet_json_core.specs.Told.{tree_of_scalar}
 use Rattle.facet_json_core.specs.Meaning.OneValue.{PassesValue, IsInside, PassesByKind}
 use Rattle.facet_json_core.proofs.Meaning.OneValue.EventsPassed.{next-passes_by_kind}

@@ -2,11 +2,11 @@
 use Rattle.std.proofs.Common.{◌≡◌, ◌≤◌, ◌⊎◌, inl, inr, ℕ, List, Some, None, sym, ap, ◌∙◌, subst}
 use Rattle.facet_format.specs.Complaint.{Refusal}
 use Rattle.facet_format.specs.Span.{Span}
-use Rattle.facet_json_document.specs.Node.{Node}
-use Rattle.facet_json_document.specs.Tree.{Tree}
-use Rattle.facet_json_document.specs.Meaning.{tree_of}
-use Rattle.facet_json_document.specs.Future.{Future, finished, events_before}
-use Rattle.facet_json_document.specs.Walk.{walk}
+use Rattle.facet_json_grammar.specs.Node.{Node}
+use Rattle.facet_json_grammar.specs.Tree.{Tree}
+use Rattle.facet_json_grammar.specs.Meaning.{tree_of}
+use Rattle.facet_json_grammar.specs.Future.{Future, finished, events_before}
+use Rattle.facet_json_grammar.specs.Walk.{walk}
 use Rattle.facet_json_core.specs.Told.{Tells}
 use Rattle.facet_json_core.specs.Reading.{LacksMemory}
 use Rattle.facet_json_core.proofs.WalkTells.{walk-tells}

@@ -1,7 +1,7 @@
 -- What a value is, apart from the variant that holds it (RFC 8259, section 3).
 use Rattle.std.specs.Prelude.{◌≡◌, ℕ, ℤ, pos, Bool, true, false, List, Option, Some, None, MatchOption, SomeIff, FitsSigned, unsigned_abs}
 use Rattle.std.specs.Int.{Width, FitsUnsigned}
-use Rattle.facet_json_document.specs.Tree.{Tree, null, unit, bool, char, i64, u64, i128, u128, decimal, text, raw, list, pairs, Trees, Pairs}
+use Rattle.facet_json_grammar.specs.Tree.{Tree, null, unit, bool, char, i64, u64, i128, u128, decimal, text, raw, list, pairs, Trees, Pairs}
 
 -- what JSON has as `null`
 abbrev pub is_null : Tree → Bool

@@ -8,12 +8,12 @@ use Rattle.facet_format.specs.Span.{Span}
 use Rattle.facet_json_token.specs.Gap.{Mode}
 use Rattle.facet_json_token.specs.Tokens.{Tokens}
 use Rattle.facet_json_token.specs.TokenList.{tokens}
-use Rattle.facet_json_document.specs.Node.{Node, scalar, array, object, Nodes, no_nodes, item, Members, no_members, member}
-use Rattle.facet_json_document.specs.Tree.{Tree}
-use Rattle.facet_json_document.specs.Place.{Place}
-use Rattle.facet_json_document.specs.Document.{IsDocument}
-use Rattle.facet_json_document.specs.Future.{Future, gives, finished, stuck}
-use Rattle.facet_json_document.specs.Begun.{LongestPrefix, RefusesAfter}
+use Rattle.facet_json_grammar.specs.Node.{Node, scalar, array, object, Nodes, no_nodes, item, Members, no_members, member}
+use Rattle.facet_json_grammar.specs.Tree.{Tree}
+use Rattle.facet_json_grammar.specs.Place.{Place}
+use Rattle.facet_json_grammar.specs.Document.{IsDocument}
+use Rattle.facet_json_grammar.specs.Future.{Future, gives, finished, stuck}
+use Rattle.facet_json_grammar.specs.Begun.{LongestPrefix, RefusesAfter}
 
 -- ---- values
 

@@ -2,7 +2,7 @@
 use Rattle.std.specs.Prelude.{◌≡◌, ◌≢◌, ℕ, List, Some, None}
 use Rattle.facet_json_tree.specs.Edit.{set_member, drop_members}
 use Rattle.facet_json_tree.specs.Lookup.{last_member}
-use Rattle.facet_json_document.specs.Tree.{Tree, Pairs}
+use Rattle.facet_json_grammar.specs.Tree.{Tree, Pairs}
 
 -- Once a member is set, its name finds the value,
 abbrev pub SetIsFound : Type 0

@@ -1,6 +1,6 @@
 -- What a refusal to store a value tells. It names a type of the code.
 use Rattle.std.specs.Prelude.{◌≡◌, ℕ, List, Option, Some, None, IsSome, codes}
-use Rattle.facet_json_document.specs.Tree.{Tree}
+use Rattle.facet_json_grammar.specs.Tree.{Tree}
 use Rattle.facet_json_tree.specs.Views.{tree_view}
 use Rattle.facet_json_tree.specs.declared.tree.Tree.{Tree as RustTree}
 use Rattle.facet_json_tree.specs.declared.not_stored.NotStored.{NotStored}

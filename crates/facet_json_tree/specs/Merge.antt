@@ -4,7 +4,7 @@ use Rattle.std.specs.Option.{unwrap_or}
 use Rattle.facet_json_tree.specs.Content.{is_null}
 use Rattle.facet_json_tree.specs.Edit.{set_member, drop_members}
 use Rattle.facet_json_tree.specs.Lookup.{last_member}
-use Rattle.facet_json_document.specs.Tree.{Tree, null, pairs, Pairs, no_pairs, pair}
+use Rattle.facet_json_grammar.specs.Tree.{Tree, null, pairs, Pairs, no_pairs, pair}
 
 -- the members of an object; a target that is none is taken for an empty one
 abbrev pub members_within : Tree → Pairs

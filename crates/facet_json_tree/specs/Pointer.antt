@@ -3,7 +3,7 @@ use Rattle.std.specs.Prelude.{◌≡◌, ◌≢◌, ℕ, suc, Bool, true, false,
 use Rattle.std.specs.List.{list_all}
 use Rattle.facet_format.specs.Bytes.{is_digit, slash}
 use Rattle.facet_format.specs.NumberValue.{digits_value}
-use Rattle.facet_json_document.specs.Tree.{Tree, list, pairs}
+use Rattle.facet_json_grammar.specs.Tree.{Tree, list, pairs}
 use Rattle.facet_json_tree.specs.Lookup.{last_member, item_at}
 
 -- ~

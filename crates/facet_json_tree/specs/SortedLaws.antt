@@ -1,6 +1,6 @@
 -- What is known of a value once its members are in order.
 use Rattle.std.specs.Prelude.{◌≡◌, ℕ, false, List, ⊤, option_map}
-use Rattle.facet_json_document.specs.Tree.{Tree, Pairs, no_pairs, pair}
+use Rattle.facet_json_grammar.specs.Tree.{Tree, Pairs, no_pairs, pair}
 use Rattle.facet_json_tree.specs.Lookup.{member}
 use Rattle.facet_json_tree.specs.Sorted.{is_before, in_order, sorted}
 

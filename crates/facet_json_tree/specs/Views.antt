@@ -4,8 +4,8 @@ use Rattle.std.specs.declared.string.String.{String}
 use Rattle.std.specs.declared.alloc.Global.{Global}
 use Rattle.facet_json_tree.specs.declared.tree.Tree.{Tree as RustTree, fold-Tree}
 use Rattle.facet_json_tree.specs.declared.tree.Tree.TheOpen.{Tree-F}
-use Rattle.facet_json_document.specs.Tree.{Tree, Trees, no_trees, Pairs, no_pairs}
-use Rattle.facet_json_document.specs.Tree as tree
+use Rattle.facet_json_grammar.specs.Tree.{Tree, Trees, no_trees, Pairs, no_pairs}
+use Rattle.facet_json_grammar.specs.Tree as tree
 
 abbrev pub trees_of : List Tree → Trees
 trees_of [] = no_trees

@@ -1,12 +1,12 @@
 -- What writing a tree by a serializer's calls leaves.
 use Rattle.std.specs.Prelude.{◌≡◌, ℕ, true, List, Option, Some}
 use Rattle.std.specs.Str.{is_utf8}
-use Rattle.facet_json_document.specs.Text.{Options, default_options}
-use Rattle.facet_json_document.specs.Tree.{Tree}
+use Rattle.facet_json_grammar.specs.Text.{Options, default_options}
+use Rattle.facet_json_grammar.specs.Tree.{Tree}
 use Rattle.facet_json_serializer.specs.Serializer.{Writing}
 use Rattle.facet_json_serializer.specs.TreeCalls.{with_tree}
-use Rattle.facet_json_document.specs.AsRead.{WellFormed, RawParts, IsDocumentText, IsBlankIndent}
-use Rattle.facet_json_document.specs.ReadBack.{IsReadBack}
+use Rattle.facet_json_grammar.specs.AsRead.{WellFormed, RawParts, IsDocumentText, IsBlankIndent}
+use Rattle.facet_json_grammar.specs.ReadBack.{IsReadBack}
 
 -- indented by two spaces, with bytes as arrays
 abbrev pub pretty_options : Options

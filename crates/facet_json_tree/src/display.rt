@@ -6,10 +6,10 @@ ghost use Rattle.std.specs.Char.{encode_utf8};
 ghost use Rattle.std.specs.Fmt.{WritesOnOk};
 ghost use Rattle.std.specs.List.{flat_map};
 ghost use Rattle.facet_format.specs.Bytes.{right_bracket};
-ghost use Rattle.facet_json_document.specs.Quoted.{escaped, hex_byte, quoted};
-ghost use Rattle.facet_json_document.specs.Quoted as spelled;
-ghost use Rattle.facet_json_document.specs.Text as text;
-ghost use Rattle.facet_json_document.specs.Text.{default_options, items_text, members_text, numbers};
+ghost use Rattle.facet_json_grammar.specs.Quoted.{escaped, hex_byte, quoted};
+ghost use Rattle.facet_json_grammar.specs.Quoted as spelled;
+ghost use Rattle.facet_json_grammar.specs.Text as text;
+ghost use Rattle.facet_json_grammar.specs.Text.{default_options, items_text, members_text, numbers};
 ghost use Rattle.facet_json_tree.specs.Views.{tree_view, trees_view, pairs_view};
 
 use crate::tree::Tree;
@@ -162,7 +162,7 @@ fn show_content<W: Write>(text: &str, f: &mut Formatter<W>) -> fmt::Result
 }
 
 /// Whether a byte cannot stand for itself between the quotes.
-#[tactic(auto, unfolding(facet_json_document::specs::Quoted::escaped))]
+#[tactic(auto, unfolding(facet_json_grammar::specs::Quoted::escaped))]
 fn needs_escape(byte: u8) -> bool
     ensures ascii { OnTrue result (byte < 128) }
     ensures plain { OnFalse result (escaped byte ≡ byte ∷ []) }
@@ -171,7 +171,7 @@ fn needs_escape(byte: u8) -> bool
 }
 
 /// Writes what stands between the quotes for an ASCII character: an escape, or the character.
-#[tactic(auto, unfolding(facet_json_document::specs::Quoted::escaped))]
+#[tactic(auto, unfolding(facet_json_grammar::specs::Quoted::escaped))]
 fn show_escaped<W: Write>(byte: u8, f: &mut Formatter<W>) -> fmt::Result
     requires { byte < 128 }
     ensures { WritesOnOk W.write_str_gives f.old result (escaped byte) f.new }

@@ -1,7 +1,7 @@
 //! Values from what they hold: `Tree::from(7u64)` is `Tree::U64(7)`. Nothing is allocated or refused.
 
 ghost use Rattle.std.specs.Prelude.{◌≡◌, string_bytes};
-ghost use Rattle.facet_json_document.specs.Tree as tree;
+ghost use Rattle.facet_json_grammar.specs.Tree as tree;
 ghost use Rattle.facet_json_tree.specs.Views.{tree_view, trees_view, pairs_view};
 
 use crate::owned_decimal::OwnedDecimal;

@@ -1,7 +1,7 @@
 //! JSON Merge Patch (RFC 7396): a value is changed by a patch, which is a value too.
 
 ghost use Rattle.std.specs.Prelude.{◌≡◌, IfOk, OnErr, OnOk, unwrap_or};
-ghost use Rattle.facet_json_document.specs.Tree.{null};
+ghost use Rattle.facet_json_grammar.specs.Tree.{null};
 ghost use Rattle.facet_json_tree.specs.Edit.{set_member};
 ghost use Rattle.facet_json_tree.specs.Lookup.{last_member};
 ghost use Rattle.facet_json_tree.specs.Merge.{member_merged, members_merged as members_merged_of, members_within, merged as merged_of};

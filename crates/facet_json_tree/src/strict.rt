@@ -4,11 +4,11 @@ ghost use Rattle.std.specs.Prelude.{◌≡◌, ◌≤◌, ◌+◌, ◌⊎◌, le
 ghost use Rattle.facet_format.specs.Complaint.{out_of_memory};
 ghost use Rattle.facet_format.specs.Span.{Span as SpecSpan};
 ghost use Rattle.facet_format.specs.Views.{refusal_of};
-ghost use Rattle.facet_json_document.specs.Language.{strict};
-ghost use Rattle.facet_json_document.specs.Node.{Node};
-ghost use Rattle.facet_json_document.specs.Tree.{Tree as SpecTree};
-ghost use Rattle.facet_json_document.specs.StrictDocument.{IsStrictDocument};
-ghost use Rattle.facet_json_document.specs.Now.{Now, fresh_in, future_of};
+ghost use Rattle.facet_json_grammar.specs.Language.{strict};
+ghost use Rattle.facet_json_grammar.specs.Node.{Node};
+ghost use Rattle.facet_json_grammar.specs.Tree.{Tree as SpecTree};
+ghost use Rattle.facet_json_grammar.specs.StrictDocument.{IsStrictDocument};
+ghost use Rattle.facet_json_grammar.specs.Now.{Now, fresh_in, future_of};
 ghost use Rattle.facet_json_token.specs.Gap.{plain};
 ghost use Rattle.facet_json_core.specs.Refusing.{ComesTo, TellsRefusal};
 ghost use Rattle.facet_json_tree.specs.Depth.{depth_of, first_beyond, too_deep_at};

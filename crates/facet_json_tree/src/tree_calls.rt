@@ -1,11 +1,11 @@
 //! A tree, written by a serializer's calls.
 
 ghost use Rattle.std.specs.Prelude.{◌≡◌, None, IfErr, OnOk, OnErr};
-ghost use Rattle.facet_json_document.specs.Tree.{list, pairs};
-ghost use Rattle.facet_json_document.specs.Tree as tree;
+ghost use Rattle.facet_json_grammar.specs.Tree.{list, pairs};
+ghost use Rattle.facet_json_grammar.specs.Tree as tree;
 ghost use Rattle.facet_format.specs.Event as event;
 ghost use Rattle.facet_format.specs.SerializerCall.{scalar, raw_scalar};
-ghost use Rattle.facet_json_document.specs.Text.{bool_text};
+ghost use Rattle.facet_json_grammar.specs.Text.{bool_text};
 ghost use Rattle.facet_json_serializer.specs.Serializer.{out_of_memory, Appends};
 ghost use Rattle.facet_json_serializer.specs.Views.{call_answer_of, write_refusal_of};
 ghost use Rattle.facet_json_tree.specs.Views.{tree_view, trees_view, pairs_view};

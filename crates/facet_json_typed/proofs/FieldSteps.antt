@@ -8,10 +8,10 @@ use Rattle.facet_format.specs.Part.{Source}
 use Rattle.facet_format.specs.Span.{Span}
 use Rattle.facet_format.specs.Event.{object}
 use Rattle.facet_json_token.specs.Token.{Token}
-use Rattle.facet_json_document.specs.Node.{Node, scalar, Members, member}
-use Rattle.facet_json_document.specs.Node as node
-use Rattle.facet_json_document.specs.Meaning.{text_in_tree, meaning}
-use Rattle.facet_json_document.specs.Now.{Now, ahead, GoesOn}
+use Rattle.facet_json_grammar.specs.Node.{Node, scalar, Members, member}
+use Rattle.facet_json_grammar.specs.Node as node
+use Rattle.facet_json_grammar.specs.Meaning.{text_in_tree, meaning}
+use Rattle.facet_json_grammar.specs.Now.{Now, ahead, GoesOn}
 use Rattle.facet_json_core.specs.Meaning.Nodes.{StandsBefore, KeepsOn}
 use Rattle.facet_json_core.specs.Meaning.Objects.{members_of, BeginsObject, IsNoObject, PassesKey, LacksKey}
 use Rattle.facet_json_core.specs.Meaning.OneValue.{IsInside}

@@ -2,8 +2,8 @@
 use Rattle.std.proofs.Common.{◌≡◌, true, List, [], ◌∷◌, ◌++◌, Option, None, Some, Result, Ok, Err, refl, sym, ap, ◌∙◌, subst}
 use Rattle.std.specs.Prelude.{ℕ}
 use Rattle.facet_format.specs.SerializerCall.{SerializerCall, begin_struct, field_key, end_struct, TakesAll}
-use Rattle.facet_json_document.specs.Text.{Options}
-use Rattle.facet_json_document.specs.Tree.{Tree, pairs, Pairs, no_pairs, pair}
+use Rattle.facet_json_grammar.specs.Text.{Options}
+use Rattle.facet_json_grammar.specs.Tree.{Tree, pairs, Pairs, no_pairs, pair}
 use Rattle.facet_json_serializer.specs.Serializer.{Opened, in_struct, in_list, Writing, Addition, Misfit, WriteRefusal, out_of_memory, key_added, addition, appended, Takes, Appends, appends, refuses, runs_out, stays_out}
 use Rattle.facet_json_serializer.specs.TreeCalls.{and_then, after_calls, tree_calls, member_calls, with_tree}
 use Rattle.facet_json_serializer.proofs.TreesByCalls.{tree_by_calls}

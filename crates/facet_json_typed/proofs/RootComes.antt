@@ -3,14 +3,14 @@ use Rattle.std.proofs.Common.{◌≡◌, ℕ, List, [], Option, refl, sym, ap, �
 use Rattle.facet_format.specs.Complaint.{Refusal}
 use Rattle.facet_format.specs.Cursor.{start}
 use Rattle.facet_json_token.specs.Gap.{Mode}
-use Rattle.facet_json_document.specs.Document.{IsDocument}
-use Rattle.facet_json_document.specs.Language.{Language}
-use Rattle.facet_json_document.specs.Node.{Node}
-use Rattle.facet_json_document.specs.Tree.{Tree}
-use Rattle.facet_json_document.specs.Walk.{walk, source_of}
-use Rattle.facet_json_document.specs.Now.{Now, fresh, fresh_in}
-use Rattle.facet_json_document.specs.UnreadLaws.{RefusalWithin}
-use Rattle.facet_json_document.proofs.StandsOnWalk.{fresh-stands}
+use Rattle.facet_json_grammar.specs.Document.{IsDocument}
+use Rattle.facet_json_grammar.specs.Language.{Language}
+use Rattle.facet_json_grammar.specs.Node.{Node}
+use Rattle.facet_json_grammar.specs.Tree.{Tree}
+use Rattle.facet_json_grammar.specs.Walk.{walk, source_of}
+use Rattle.facet_json_grammar.specs.Now.{Now, fresh, fresh_in}
+use Rattle.facet_json_grammar.specs.UnreadLaws.{RefusalWithin}
+use Rattle.facet_json_grammar.proofs.StandsOnWalk.{fresh-stands}
 use Rattle.facet_json_core.specs.Refusing.{ComesTo, TellsRefusal}
 use Rattle.facet_json_core.specs.Meaning.Nodes.{KeepsOn, StandsBefore}
 use Rattle.facet_json_core.specs.Meaning.Reading.{IsRead, IsUnread}

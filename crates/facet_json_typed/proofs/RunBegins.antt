@@ -7,13 +7,13 @@ use Rattle.facet_json_token.specs.Token.{Kind, Token}
 use Rattle.facet_json_token.specs.Token as token
 use Rattle.facet_json_token.specs.Tokens.{Tokens, next}
 use Rattle.facet_json_token.specs.TokenList.{tokens}
-use Rattle.facet_json_document.specs.Language.{lenient_rules}
-use Rattle.facet_json_document.specs.Place.{Place, root, passes, place_turn}
-use Rattle.facet_json_document.specs.Run.{Run}
-use Rattle.facet_json_document.specs.Now.{Now, fresh, on_input, current_span_of}
-use Rattle.facet_json_document.specs.SkipLaws.{GoesOnWith, with_value, after_separator}
-use Rattle.facet_json_document.proofs.Parts.PartsWithin.{run-ahead}
-use Rattle.facet_json_document.proofs.TokensInOrder.{tokens-in_order}
+use Rattle.facet_json_grammar.specs.Language.{lenient_rules}
+use Rattle.facet_json_grammar.specs.Place.{Place, root, passes, place_turn}
+use Rattle.facet_json_grammar.specs.Run.{Run}
+use Rattle.facet_json_grammar.specs.Now.{Now, fresh, on_input, current_span_of}
+use Rattle.facet_json_grammar.specs.SkipLaws.{GoesOnWith, with_value, after_separator}
+use Rattle.facet_json_grammar.proofs.Parts.PartsWithin.{run-ahead}
+use Rattle.facet_json_grammar.proofs.TokensInOrder.{tokens-in_order}
 use Rattle.facet_json_core.specs.Meaning.OneValue.{PassesValue}
 use Rattle.facet_json_typed.specs.Inputs.{BeginsWithRun, BeginsWithRunTo}
 

@@ -4,18 +4,18 @@ use Rattle.std.proofs.lemmas.List.{drop_all}
 use Rattle.facet_format.specs.Complaint.{Refusal}
 use Rattle.facet_format.specs.Cursor.{start, Spot, unpeeked}
 use Rattle.facet_json_token.specs.Gap.{plain}
-use Rattle.facet_json_document.specs.Future.{finished, events_before}
-use Rattle.facet_json_document.specs.Language.{strict}
-use Rattle.facet_json_document.specs.Node.{Node}
-use Rattle.facet_json_document.specs.StrictDocument.{IsStrictDocument}
-use Rattle.facet_json_document.specs.Tree.{Tree}
-use Rattle.facet_json_document.specs.Walk.{walk, source_of}
-use Rattle.facet_json_document.specs.Now.{Now, fresh_in, future_of}
-use Rattle.facet_json_document.specs.OneRun.{IsOneRun}
-use Rattle.facet_json_document.specs.UnreadLaws.{RefusalWithin}
-use Rattle.facet_json_document.proofs.CallsLead.{none-lead, led-moves}
-use Rattle.facet_json_document.proofs.OneRun.EndsAtRun.{ends_at_run}
-use Rattle.facet_json_document.proofs.StrictAnswered.{strict-stands}
+use Rattle.facet_json_grammar.specs.Future.{finished, events_before}
+use Rattle.facet_json_grammar.specs.Language.{strict}
+use Rattle.facet_json_grammar.specs.Node.{Node}
+use Rattle.facet_json_grammar.specs.StrictDocument.{IsStrictDocument}
+use Rattle.facet_json_grammar.specs.Tree.{Tree}
+use Rattle.facet_json_grammar.specs.Walk.{walk, source_of}
+use Rattle.facet_json_grammar.specs.Now.{Now, fresh_in, future_of}
+use Rattle.facet_json_grammar.specs.OneRun.{IsOneRun}
+use Rattle.facet_json_grammar.specs.UnreadLaws.{RefusalWithin}
+use Rattle.facet_json_grammar.proofs.CallsLead.{none-lead, led-moves}
+use Rattle.facet_json_grammar.proofs.OneRun.EndsAtRun.{ends_at_run}
+use Rattle.facet_json_grammar.proofs.StrictAnswered.{strict-stands}
 use Rattle.facet_json_core.specs.Meaning.Nodes.{StandsBefore, KeepsOn}
 use Rattle.facet_json_core.specs.Meaning.Reading.{IsRead, IsUnread}
 use Rattle.facet_json_typed.specs.Inputs.{IsReadStrictly, IsUnreadStrictly}

@@ -5,8 +5,8 @@ use Rattle.std.specs.Option.{option_map, option_and_then}
 use Rattle.std.specs.Str.{bytes_eq}
 use Rattle.facet_format.specs.Complaint.{missing_field, Refusal, refusal_at}
 use Rattle.facet_format.specs.Span.{Span}
-use Rattle.facet_json_document.specs.Meaning.{text_in_tree, meaning}
-use Rattle.facet_json_document.specs.Node.{scalar, array, object, Members, no_members, member}
+use Rattle.facet_json_grammar.specs.Meaning.{text_in_tree, meaning}
+use Rattle.facet_json_grammar.specs.Node.{scalar, array, object, Members, no_members, member}
 use Rattle.facet_json_core.specs.Meaning.Optional.{optional}
 use Rattle.facet_json_core.specs.Meaning.Passing.{anything}
 pub use Rattle.facet_json_core.specs.Meaning.Shapes.{Reading}

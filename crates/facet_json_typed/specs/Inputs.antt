@@ -8,15 +8,15 @@ use Rattle.facet_json_token.specs.Gap.{Mode, plain}
 use Rattle.facet_json_token.specs.Token.{Token}
 use Rattle.facet_json_token.specs.Tokens.{Tokens}
 use Rattle.facet_json_token.specs.TokenList.{tokens}
-use Rattle.facet_json_document.specs.Document.{IsDocument}
-use Rattle.facet_json_document.specs.Language.{Language, lenient, strict}
-use Rattle.facet_json_document.specs.Node.{Node}
-use Rattle.facet_json_document.specs.Run.{Run}
-use Rattle.facet_json_document.specs.Tree.{Tree}
-use Rattle.facet_json_document.specs.StrictDocument.{IsStrictDocument, IsStrict}
-use Rattle.facet_json_document.specs.Now.{Now, fresh_in}
-use Rattle.facet_json_document.specs.OneRun.{IsOneRun}
-use Rattle.facet_json_document.specs.UnreadLaws.{RefusalWithin}
+use Rattle.facet_json_grammar.specs.Document.{IsDocument}
+use Rattle.facet_json_grammar.specs.Language.{Language, lenient, strict}
+use Rattle.facet_json_grammar.specs.Node.{Node}
+use Rattle.facet_json_grammar.specs.Run.{Run}
+use Rattle.facet_json_grammar.specs.Tree.{Tree}
+use Rattle.facet_json_grammar.specs.StrictDocument.{IsStrictDocument, IsStrict}
+use Rattle.facet_json_grammar.specs.Now.{Now, fresh_in}
+use Rattle.facet_json_grammar.specs.OneRun.{IsOneRun}
+use Rattle.facet_json_grammar.specs.UnreadLaws.{RefusalWithin}
 use Rattle.facet_json_core.specs.Refusing.{ComesTo, TellsRefusal}
 use Rattle.facet_json_core.specs.Reading.{LacksMemory}
 

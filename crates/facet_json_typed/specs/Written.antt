@@ -1,7 +1,7 @@
 -- How the members of an object are written.
 use Rattle.std.specs.Prelude.{◌≡◌, Bool, true, false, List, [], ◌∷◌, Option, Some, None}
 use Rattle.facet_format.specs.SerializerCall.{TakesAll}
-use Rattle.facet_json_document.specs.Tree.{Pairs}
+use Rattle.facet_json_grammar.specs.Tree.{Pairs}
 use Rattle.facet_json_serializer.specs.Serializer.{Opened, in_struct, in_list, Writing, Takes}
 use Rattle.facet_json_serializer.specs.TreeCalls.{member_calls}
 

@@ -6,13 +6,14 @@ ghost use Rattle.std.specs.Str.{bytes_eq};
 ghost use Rattle.facet_format.specs.Complaint.{missing_field, refusal_at};
 ghost use Rattle.facet_format.specs.Span.{stop};
 ghost use Rattle.facet_format.specs.Views.{refusal_of, span_of};
-ghost use Rattle.facet_json_document.specs.Now.{ahead, current_span_of as last_read};
-ghost use Rattle.facet_json_document.specs.UnreadLaws.{RefusalWithin};
+ghost use Rattle.facet_json_grammar.specs.Now.{ahead, current_span_of as last_read};
+ghost use Rattle.facet_json_grammar.specs.UnreadLaws.{RefusalWithin};
 ghost use Rattle.facet_json_core.specs.Meaning.Nodes.{KeepsOn};
 ghost use Rattle.facet_json_core.specs.Meaning.OneValue.{PassesValue, IsAfterKey};
 ghost use Rattle.facet_json_core.specs.Meaning.Reading.{IsRead, IsUnread};
 ghost use Rattle.facet_json_core.specs.Refusing.{TellsRefusal};
-ghost use Rattle.facet_json_typed.specs.Fields.{field_step, keys, table, fields_of, begins_with, first_name, other_names, joined, LacksField};
+ghost use Rattle.facet_json_typed.specs.Fields.{field_step, keys, table, fields_of, begins_with, first_name, other_names, joined};
+ghost use Rattle.facet_json_typed.specs.Fields.{LacksField};
 
 use facet_format::{DeserializeError, DeserializeErrorKind, FormatParser, Span};
 use facet_json_facet::steps::{begin_object, next_name, pass_value};

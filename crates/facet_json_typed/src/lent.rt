@@ -1,7 +1,7 @@
 //! Fields of structs that are lent, and an object that is written of them.
 
 ghost use Rattle.std.specs.Prelude.{◌≡◌, None, IfErr, OnErr, OnOk};
-ghost use Rattle.facet_json_document.specs.Tree.{pairs, no_pairs, pair};
+ghost use Rattle.facet_json_grammar.specs.Tree.{pairs, no_pairs, pair};
 ghost use Rattle.facet_json_serializer.specs.Serializer.{out_of_memory};
 ghost use Rattle.facet_json_serializer.specs.Views.{write_refusal_of};
 ghost use Rattle.facet_json_tree.specs.Write.{HasWritten, IsOfRust};
@@ -16,7 +16,7 @@ use facet_json_serializer::{JsonSerializeError, JsonSerializer};
 /// A list of lent fields, as `Need(&self.name, Need(&self.age, Done))`, that `write_fields` writes.
 pub trait LentFields<'de> {
     ghost use Rattle.std.specs.Prelude.{ℕ, List};
-    ghost use Rattle.facet_json_document.specs.Tree.{Pairs};
+    ghost use Rattle.facet_json_grammar.specs.Tree.{Pairs};
 
     /// The members as which the fields are written, under these names.
     ghost members: { List (List ℕ) → Self → Pairs };

@@ -3,7 +3,7 @@
 ghost use Rattle.std.specs.Prelude.{◌≡◌, ◌<◌, ◌≤◌, ◌^◌, ℕ, List, length, IfOk};
 ghost use Rattle.facet_json_token.specs.Gap.{Mode, plain};
 ghost use Rattle.facet_json_typed.specs.Inputs.{FirstValue, BeginsWithRunTo};
-ghost use Rattle.facet_json_document.specs.Now.{fresh};
+ghost use Rattle.facet_json_grammar.specs.Now.{fresh};
 
 use crate::fields::last_span;
 use facet_format::DeserializeError;

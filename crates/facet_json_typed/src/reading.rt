@@ -2,7 +2,7 @@
 
 ghost use Rattle.std.specs.Prelude.{◌≡◌, ℕ, List, false, cond, IfOk};
 ghost use Rattle.facet_json_token.specs.Gap.{Mode, plain, jsonc};
-ghost use Rattle.facet_json_document.specs.Now.{fresh};
+ghost use Rattle.facet_json_grammar.specs.Now.{fresh};
 ghost use Rattle.facet_json_typed.specs.Inputs.{FirstValue};
 
 use facet_format::DeserializeError;

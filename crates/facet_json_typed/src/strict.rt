@@ -2,8 +2,8 @@
 
 ghost use Rattle.std.specs.Prelude.{◌≡◌, ℕ, List, IfOk};
 ghost use Rattle.facet_json_token.specs.Gap.{plain};
-ghost use Rattle.facet_json_document.specs.Language.{strict};
-ghost use Rattle.facet_json_document.specs.Now.{fresh_in};
+ghost use Rattle.facet_json_grammar.specs.Language.{strict};
+ghost use Rattle.facet_json_grammar.specs.Now.{fresh_in};
 ghost use Rattle.facet_json_typed.specs.Inputs.{StrictValue};
 
 use facet_format::DeserializeError;

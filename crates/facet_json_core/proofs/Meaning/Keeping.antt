@@ -1,6 +1,6 @@
 -- A parser that goes on twice.
 use Rattle.std.proofs.Common.{◌∙◌, ◌≤◌, arith}
-use Rattle.facet_json_document.specs.Now.{Now, ahead}
+use Rattle.facet_json_grammar.specs.Now.{Now, ahead}
 use Rattle.facet_json_core.specs.Meaning.Nodes.{KeepsOn}
 
 pub keeps-then : (old now new : Now) → KeepsOn old now → KeepsOn now new → KeepsOn old new

@@ -4,8 +4,8 @@ use Rattle.facet_format.specs.Cursor.{Answer, spans, Cursor, World, skip, skippe
 use Rattle.facet_format.specs.Span.{Span}
 use Rattle.facet_format.specs.Views.{answer_of_span, span_of}
 use Rattle.facet_format.specs.declared.span.Span.{Span as RustSpan}
-use Rattle.facet_json_document.specs.Move.{Moves}
-use Rattle.facet_json_document.specs.Now.{Now, on_input}
+use Rattle.facet_json_grammar.specs.Move.{Moves}
+use Rattle.facet_json_grammar.specs.Now.{Now, on_input}
 use Rattle.facet_json_core.specs.Refusing.{ComesTo}
 pub use Rattle.facet_json_core.proofs.Refusing.{stays-there, goes-there, comes-then, later-passed, event-passed, last-passed, tells-later, call-tells, over-tells, mismatch-about, range-about, either-about, lacks-about, end-tells, event-tells, lacks-tells}
 use Rattle.facet_json_core.specs.Meaning.Nodes.{KeepsOn}

@@ -5,11 +5,11 @@ use Rattle.facet_format.specs.Complaint.{Refusal}
 use Rattle.facet_format.specs.Cursor.{Answer, event}
 use Rattle.facet_format.specs.Event.{Passed}
 use Rattle.facet_format.specs.Span.{Span}
-use Rattle.facet_json_document.specs.Alone.{AllRefused, no_answer, one_refused, AnswersAlone, not_asked, one_event, refused, wants_memory}
-use Rattle.facet_json_document.specs.StrictHeadline.{StrictAnswered, AnswersStrict, RefusesStrict, as_document, as_none}
-use Rattle.facet_json_document.proofs.StrictAnswered.{strict-answered}
-use Rattle.facet_json_document.proofs.Strict.DocumentIsText.{document-is_text}
-use Rattle.facet_json_document.proofs.Strict.TextIsDocument.{text-is_document}
+use Rattle.facet_json_grammar.specs.Alone.{AllRefused, no_answer, one_refused, AnswersAlone, not_asked, one_event, refused, wants_memory}
+use Rattle.facet_json_grammar.specs.StrictHeadline.{StrictAnswered, AnswersStrict, RefusesStrict, as_document, as_none}
+use Rattle.facet_json_grammar.proofs.StrictAnswered.{strict-answered}
+use Rattle.facet_json_grammar.proofs.Strict.DocumentIsText.{document-is_text}
+use Rattle.facet_json_grammar.proofs.Strict.TextIsDocument.{text-is_document}
 use Rattle.facet_json_core.specs.Meaning.StrictTexts.{ReadsTextsAlone, StrictReadsTexts}
 
 -- ---- the end is not among refusals

@@ -1,6 +1,6 @@
 -- The laws of each type.
 use Rattle.std.proofs.Common.{Option}
-use Rattle.facet_json_document.specs.Tree.{Tree}
+use Rattle.facet_json_grammar.specs.Tree.{Tree}
 use Rattle.facet_json_core.specs.Meaning.Laws.{ReadsBack}
 use Rattle.facet_json_core.specs.Meaning.Readings.{leaf, bool_of, unsigned_of, signed_of, text_of_tree, u128_of, i128_of}
 use Rattle.facet_json_core.proofs.Meaning.Leaves.BorrowedLaws.{borrowed-same, unread-same, unread-reads_back}

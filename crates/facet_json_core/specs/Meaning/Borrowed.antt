@@ -6,8 +6,8 @@ use Rattle.facet_format.specs.Event.{Event, EventKind}
 use Rattle.facet_format.specs.Event as event
 use Rattle.facet_json_token.specs.Token.{Kind}
 use Rattle.facet_json_token.specs.Token as token
-use Rattle.facet_json_document.specs.Node.{Node, scalar, array, object}
-use Rattle.facet_json_document.specs.Meaning.{meaning}
+use Rattle.facet_json_grammar.specs.Node.{Node, scalar, array, object}
+use Rattle.facet_json_grammar.specs.Meaning.{meaning}
 use Rattle.facet_json_core.specs.Refusing.{mismatch_of}
 use Rattle.facet_json_core.specs.Meaning.Readings.{text_of_tree}
 

@@ -1,10 +1,10 @@
 -- The laws of a type that is read and written.
 use Rattle.std.specs.Prelude.{◌≡◌, ℕ, List, Option, Some}
-use Rattle.facet_json_document.specs.Document.{IsWholeDocument}
-use Rattle.facet_json_document.specs.Node.{Node}
-use Rattle.facet_json_document.specs.Text.{text, default_options}
-use Rattle.facet_json_document.specs.Tree.{Tree}
-use Rattle.facet_json_document.specs.AsRead.{RawParts, IsDocumentText}
+use Rattle.facet_json_grammar.specs.Document.{IsWholeDocument}
+use Rattle.facet_json_grammar.specs.Node.{Node}
+use Rattle.facet_json_grammar.specs.Text.{text, default_options}
+use Rattle.facet_json_grammar.specs.Tree.{Tree}
+use Rattle.facet_json_grammar.specs.AsRead.{RawParts, IsDocumentText}
 use Rattle.facet_json_core.specs.Meaning.Nodes.{SameText}
 
 -- Nodes that the same bytes spell have the same reading.

@@ -2,8 +2,8 @@
 use Rattle.std.specs.Prelude.{◌≡◌, ℕ, Bool, true, false, List, Option, Some, None}
 use Rattle.facet_format.specs.Complaint.{Refusal}
 use Rattle.facet_format.specs.Event.{Event, EventKind, sequence_start, sequence_end}
-use Rattle.facet_json_document.specs.Node.{Node, scalar, array, object, Nodes}
-use Rattle.facet_json_document.specs.Now.{Now}
+use Rattle.facet_json_grammar.specs.Node.{Node, scalar, array, object, Nodes}
+use Rattle.facet_json_grammar.specs.Now.{Now}
 use Rattle.facet_json_core.specs.Meaning.Passing.{WalksPast}
 use Rattle.facet_json_core.specs.Meaning.Reading.{IsUnread}
 

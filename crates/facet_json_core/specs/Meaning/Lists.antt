@@ -1,8 +1,8 @@
 -- What a list reads, as what it is written, and what comes within a list.
 use Rattle.std.specs.Prelude.{ℕ, List, [], ◌∷◌, Option, Some, None}
 use Rattle.std.specs.Option.{option_map, option_and_then}
-use Rattle.facet_json_document.specs.Node.{Node, scalar, array, object, Nodes, no_nodes, item}
-use Rattle.facet_json_document.specs.Tree.{Tree, list, Trees, no_trees, tree}
+use Rattle.facet_json_grammar.specs.Node.{Node, scalar, array, object, Nodes, no_nodes, item}
+use Rattle.facet_json_grammar.specs.Tree.{Tree, list, Trees, no_trees, tree}
 
 -- ---- what is read
 

@@ -10,9 +10,9 @@ use Rattle.std.specs.declared.cmp.Ordering.{Ordering}
 use Rattle.std.specs.Ordering.{nat_cmp}
 use Rattle.std.specs.Str.{is_utf8}
 use Rattle.std.specs.declared.string.String.{String}
-use Rattle.facet_json_document.specs.Meaning.{text_in_tree, meaning}
-use Rattle.facet_json_document.specs.Node.{Node, scalar, array, object, Members, no_members, member}
-use Rattle.facet_json_document.specs.Tree.{Tree, pairs, Pairs, no_pairs, pair}
+use Rattle.facet_json_grammar.specs.Meaning.{text_in_tree, meaning}
+use Rattle.facet_json_grammar.specs.Node.{Node, scalar, array, object, Members, no_members, member}
+use Rattle.facet_json_grammar.specs.Tree.{Tree, pairs, Pairs, no_pairs, pair}
 
 -- what is seen of a map: its keys as bytes, each with what is seen of its value
 abbrev pub Entries : Type 0 → Type 0

@@ -6,14 +6,14 @@ use Rattle.facet_format.specs.Cursor.{Cursor, Spot, unpeeked}
 use Rattle.facet_format.specs.Part.{Source}
 use Rattle.facet_format.specs.Number.{Hint}
 use Rattle.facet_json_token.specs.Token.{Token, string, number}
-use Rattle.facet_json_document.specs.Node.{Node, scalar, array, object, Nodes, no_nodes, item, Members, no_members, member}
-use Rattle.facet_json_document.specs.Tree.{Tree}
-use Rattle.facet_json_document.specs.Meaning.{tree_of}
-use Rattle.facet_json_document.specs.Refusal.{needs_meaning}
-use Rattle.facet_json_document.specs.Walk.{walk}
-use Rattle.facet_json_document.specs.Reader.{Reader}
-use Rattle.facet_json_document.specs.Now.{Now, StandsAt, SameInput, ahead, LeadsTo}
-use Rattle.facet_json_document.specs.SkipLaws.{bytes_between}
+use Rattle.facet_json_grammar.specs.Node.{Node, scalar, array, object, Nodes, no_nodes, item, Members, no_members, member}
+use Rattle.facet_json_grammar.specs.Tree.{Tree}
+use Rattle.facet_json_grammar.specs.Meaning.{tree_of}
+use Rattle.facet_json_grammar.specs.Refusal.{needs_meaning}
+use Rattle.facet_json_grammar.specs.Walk.{walk}
+use Rattle.facet_json_grammar.specs.Reader.{Reader}
+use Rattle.facet_json_grammar.specs.Now.{Now, StandsAt, SameInput, ahead, LeadsTo}
+use Rattle.facet_json_grammar.specs.SkipLaws.{bytes_between}
 
 -- ---- before and after a node
 

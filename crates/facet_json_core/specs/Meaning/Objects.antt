@@ -4,8 +4,8 @@ use Rattle.facet_format.specs.Complaint.{Refusal}
 use Rattle.facet_format.specs.Cursor.{Cursor}
 use Rattle.facet_format.specs.Part.{Source}
 use Rattle.facet_format.specs.Event.{Event, EventKind, struct_start, struct_end, field_key, bytes_of, Passed}
-use Rattle.facet_json_document.specs.Node.{Node, scalar, array, object, Members}
-use Rattle.facet_json_document.specs.Now.{Now, StandsAt}
+use Rattle.facet_json_grammar.specs.Node.{Node, scalar, array, object, Members}
+use Rattle.facet_json_grammar.specs.Now.{Now, StandsAt}
 use Rattle.facet_json_core.specs.Reading.{LacksMemory}
 use Rattle.facet_json_core.specs.Meaning.Passing.{WalksPast}
 use Rattle.facet_json_core.specs.Meaning.Reading.{IsUnread}

@@ -6,12 +6,12 @@ use Rattle.facet_format.specs.Span.{stop}
 use Rattle.facet_json_token.specs.Token.{Token}
 use Rattle.facet_json_token.specs.Tokens.{Tokens}
 use Rattle.facet_json_token.specs.TokenList.{tokens_from}
-use Rattle.facet_json_document.specs.Future.{Future, gives, within}
-use Rattle.facet_json_document.specs.Language.{gaps}
-use Rattle.facet_json_document.specs.Place.{after_colon}
-use Rattle.facet_json_document.specs.Run.{opening, RunsInside}
-use Rattle.facet_json_document.specs.Now.{Now, future_of}
-use Rattle.facet_json_document.specs.SkipLaws.{BeforeValue, PassesRun}
+use Rattle.facet_json_grammar.specs.Future.{Future, gives, within}
+use Rattle.facet_json_grammar.specs.Language.{gaps}
+use Rattle.facet_json_grammar.specs.Place.{after_colon}
+use Rattle.facet_json_grammar.specs.Run.{opening, RunsInside}
+use Rattle.facet_json_grammar.specs.Now.{Now, future_of}
+use Rattle.facet_json_grammar.specs.SkipLaws.{BeforeValue, PassesRun}
 
 -- The parser stood before a value, and the run that begins there was passed, as by a skip.
 pub record PassesValue (old new : Now) : Type 0 where

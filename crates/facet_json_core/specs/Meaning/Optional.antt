@@ -5,10 +5,10 @@ use Rattle.facet_format.specs.Event.{EventKind}
 use Rattle.facet_format.specs.Event as event
 use Rattle.facet_json_token.specs.Token.{Kind}
 use Rattle.facet_json_token.specs.Token as token
-use Rattle.facet_json_document.specs.Document.{IsWholeDocument}
-use Rattle.facet_json_document.specs.Node.{Node, scalar, array, object}
-use Rattle.facet_json_document.specs.Text.{text, default_options}
-use Rattle.facet_json_document.specs.Tree.{Tree, null}
+use Rattle.facet_json_grammar.specs.Document.{IsWholeDocument}
+use Rattle.facet_json_grammar.specs.Node.{Node, scalar, array, object}
+use Rattle.facet_json_grammar.specs.Text.{text, default_options}
+use Rattle.facet_json_grammar.specs.Tree.{Tree, null}
 
 abbrev pub is_null_token : Kind → Bool
 is_null_token token.null = true

@@ -3,7 +3,7 @@ use Rattle.std.specs.Prelude.{◌≡◌, ℕ, Bool, slice_get, Some, None}
 use Rattle.facet_format.specs.Event.{EventKind, Passed}
 use Rattle.facet_format.specs.Cursor.{Cursor, at_spot, peeked_at}
 use Rattle.facet_format.specs.Part.{Source}
-use Rattle.facet_json_document.specs.Now.{Now, StandsAt}
+use Rattle.facet_json_grammar.specs.Now.{Now, StandsAt}
 
 -- The answer is whether this event is such a one, and the event stays the next one.
 pub record Shows (is : EventKind → Bool) (w : Source) (c : Cursor ℕ) (p : Passed) (found : Bool) (new : Now) : Type 0 where

@@ -4,13 +4,13 @@ use Rattle.facet_format.specs.Complaint.{Refusal}
 use Rattle.facet_format.specs.Cursor.{Cursor}
 use Rattle.facet_format.specs.Part.{Source}
 use Rattle.facet_json_token.specs.Gap.{Mode, plain}
-use Rattle.facet_json_document.specs.Node.{Node}
-use Rattle.facet_json_document.specs.Tree.{Tree}
-use Rattle.facet_json_document.specs.Document.{IsDocument}
-use Rattle.facet_json_document.specs.Future.{finished}
-use Rattle.facet_json_document.specs.Language.{strict}
-use Rattle.facet_json_document.specs.StrictDocument.{IsStrict}
-use Rattle.facet_json_document.specs.Now.{Now, fresh, fresh_in, future_of}
+use Rattle.facet_json_grammar.specs.Node.{Node}
+use Rattle.facet_json_grammar.specs.Tree.{Tree}
+use Rattle.facet_json_grammar.specs.Document.{IsDocument}
+use Rattle.facet_json_grammar.specs.Future.{finished}
+use Rattle.facet_json_grammar.specs.Language.{strict}
+use Rattle.facet_json_grammar.specs.StrictDocument.{IsStrict}
+use Rattle.facet_json_grammar.specs.Now.{Now, fresh, fresh_in, future_of}
 use Rattle.facet_json_core.specs.Reading.{LacksMemory}
 use Rattle.facet_json_core.specs.Meaning.Nodes.{StandsBefore, StandsAfter}
 

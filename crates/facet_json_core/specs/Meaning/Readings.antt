@@ -7,13 +7,13 @@ use Rattle.std.specs.Str.Parse.{digits_value, signed_digits_value}
 use Rattle.facet_format.specs.Span.{stop}
 use Rattle.facet_format.specs.Event.{EventKind}
 use Rattle.facet_format.specs.Event as event
-use Rattle.facet_json_document.specs.Document.{IsWholeDocument}
-use Rattle.facet_json_document.specs.Node.{Node, scalar, array, object}
-use Rattle.facet_json_document.specs.RunLaws.{last_token_of}
-use Rattle.facet_json_document.specs.UnreadLaws.{first_token}
-use Rattle.facet_json_document.specs.Tree.{Tree, bool, i64, u64, text}
-use Rattle.facet_json_document.specs.Meaning.{meaning}
-use Rattle.facet_json_document.specs.SkipLaws.{bytes_between}
+use Rattle.facet_json_grammar.specs.Document.{IsWholeDocument}
+use Rattle.facet_json_grammar.specs.Node.{Node, scalar, array, object}
+use Rattle.facet_json_grammar.specs.RunLaws.{last_token_of}
+use Rattle.facet_json_grammar.specs.UnreadLaws.{first_token}
+use Rattle.facet_json_grammar.specs.Tree.{Tree, bool, i64, u64, text}
+use Rattle.facet_json_grammar.specs.Meaning.{meaning}
+use Rattle.facet_json_grammar.specs.SkipLaws.{bytes_between}
 use Rattle.facet_json_core.specs.Told.{tree_of_scalar}
 
 -- what a type reads that has its value from a scalar alone

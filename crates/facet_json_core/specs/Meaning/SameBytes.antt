@@ -4,12 +4,12 @@ use Rattle.facet_json_token.specs.Gap.{Mode}
 use Rattle.facet_json_token.specs.Token.{Token}
 use Rattle.facet_json_token.specs.Tokens.{Tokens}
 use Rattle.facet_json_token.specs.TokenList.{tokens_from}
-use Rattle.facet_json_document.specs.Document.{IsDocument}
-use Rattle.facet_json_document.specs.Node.{Node, array, object, Nodes, item, Members, member, Spells}
-use Rattle.facet_json_document.specs.RunLaws.{last_token_of}
-use Rattle.facet_json_document.specs.Tree.{Tree}
-use Rattle.facet_json_document.specs.UnreadLaws.{first_token}
-use Rattle.facet_json_document.specs.SkipLaws.{bytes_between}
+use Rattle.facet_json_grammar.specs.Document.{IsDocument}
+use Rattle.facet_json_grammar.specs.Node.{Node, array, object, Nodes, item, Members, member, Spells}
+use Rattle.facet_json_grammar.specs.RunLaws.{last_token_of}
+use Rattle.facet_json_grammar.specs.Tree.{Tree}
+use Rattle.facet_json_grammar.specs.UnreadLaws.{first_token}
+use Rattle.facet_json_grammar.specs.SkipLaws.{bytes_between}
 use Rattle.facet_json_core.specs.Meaning.Nodes.{SameText}
 
 -- ---- nodes of a buffer

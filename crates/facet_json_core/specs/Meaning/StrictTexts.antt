@@ -2,13 +2,13 @@
 use Rattle.std.specs.Prelude.{ℕ, List, Contains, Ok, None}
 use Rattle.facet_format.specs.Cursor.{Call, Answer, event}
 use Rattle.facet_json_token.specs.Gap.{plain}
-use Rattle.facet_json_document.specs.Language.{strict}
-use Rattle.facet_json_document.specs.RfcReadable.{IsReadableText}
-use Rattle.facet_json_document.specs.RfcText.{InUtf8}
-use Rattle.facet_json_document.specs.Now.{Now, fresh_in}
-use Rattle.facet_json_document.specs.Move.{MovesAll}
-use Rattle.facet_json_document.specs.Alone.{AllNext}
-use Rattle.facet_json_document.specs.StrictHeadline.{AnswersStrict, RefusesStrict}
+use Rattle.facet_json_grammar.specs.Language.{strict}
+use Rattle.facet_json_grammar.specs.RfcReadable.{IsReadableText}
+use Rattle.facet_json_grammar.specs.RfcText.{InUtf8}
+use Rattle.facet_json_grammar.specs.Now.{Now, fresh_in}
+use Rattle.facet_json_grammar.specs.Move.{MovesAll}
+use Rattle.facet_json_grammar.specs.Alone.{AllNext}
+use Rattle.facet_json_grammar.specs.StrictHeadline.{AnswersStrict, RefusesStrict}
 
 -- The input is UTF-8 and one text of RFC 8259, all of whose strings have a text and whose whole numbers lie within 128 bits.
 abbrev pub IsText : List ℕ → Type 0

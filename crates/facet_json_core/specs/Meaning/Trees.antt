@@ -1,12 +1,12 @@
 -- Trees that come back from their text, and the trees of documents. Each law is the contract of a function of the module `laws`.
 use Rattle.std.specs.Prelude.{ℕ, List, pos, negsuc}
 use Rattle.facet_json_token.specs.Gap.{Mode}
-use Rattle.facet_json_document.specs.Document.{IsDocument, IsWholeDocument}
-use Rattle.facet_json_document.specs.Node.{Node}
-use Rattle.facet_json_document.specs.Text.{BytesFormat, as_array, Options, text}
-use Rattle.facet_json_document.specs.Tree.{Tree, null, unit, bool, char, i64, u64, i128, u128, bytes, raw, list, pairs, Trees, no_trees, tree, Pairs, no_pairs, pair}
-use Rattle.facet_json_document.specs.Tree as trees
-use Rattle.facet_json_document.specs.AsRead.{WellFormed, RawParts, ReadsAs, IsBlankIndent}
+use Rattle.facet_json_grammar.specs.Document.{IsDocument, IsWholeDocument}
+use Rattle.facet_json_grammar.specs.Node.{Node}
+use Rattle.facet_json_grammar.specs.Text.{BytesFormat, as_array, Options, text}
+use Rattle.facet_json_grammar.specs.Tree.{Tree, null, unit, bool, char, i64, u64, i128, u128, bytes, raw, list, pairs, Trees, no_trees, tree, Pairs, no_pairs, pair}
+use Rattle.facet_json_grammar.specs.Tree as trees
+use Rattle.facet_json_grammar.specs.AsRead.{WellFormed, RawParts, ReadsAs, IsBlankIndent}
 
 -- The tree comes back from its text: it reads as itself. So do null, truth values, numbers without a sign of 64 bits, negative ones of 63 bits
 -- beside their sign, decimals, texts, and lists and objects of such trees. A number of 64 bits with a sign that is not negative does not,

@@ -2,10 +2,10 @@
 use Rattle.std.specs.Prelude.{◌≡◌, ℕ, ◌^◌, ◌<◌, ℤ, Bool, true, List, Option}
 use Rattle.std.specs.List.{All}
 use Rattle.std.specs.Str.{is_utf8}
-use Rattle.facet_json_document.specs.Meaning.{tree_of}
-use Rattle.facet_json_document.specs.Tree.{Tree}
-use Rattle.facet_json_document.specs.Tree as tree
-use Rattle.facet_json_document.specs.AsRead.{FitsBits, WellFormed}
+use Rattle.facet_json_grammar.specs.Meaning.{tree_of}
+use Rattle.facet_json_grammar.specs.Tree.{Tree}
+use Rattle.facet_json_grammar.specs.Tree as tree
+use Rattle.facet_json_grammar.specs.AsRead.{FitsBits, WellFormed}
 use Rattle.facet_json_core.specs.Meaning.Borrowed.{borrowed_text, unread_text}
 use Rattle.facet_json_core.specs.Meaning.Lists.{list_of, list_by}
 use Rattle.facet_json_core.specs.Meaning.Maps.{Entries, map_of, tree_of_entries, IsMap, IsReadableMap}

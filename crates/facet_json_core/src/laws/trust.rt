@@ -1,7 +1,7 @@
 //! The laws of trust: a parser that takes its input for UTF-8 answers as one that checks its strings.
 
 ghost use Rattle.std.specs.Prelude.{◌≡◌};
-ghost use Rattle.facet_json_document.specs.ParserLaws.{AnswerAlike};
+ghost use Rattle.facet_json_grammar.specs.ParserLaws.{AnswerAlike};
 
 use facet_json_parser::JsonParser;
 use std::alloc::Global;

@@ -4,8 +4,8 @@ use Rattle.std.specs.Prelude.{FitsSigned, unsigned_abs}
 use Rattle.std.specs.Int.{Width, w64, FitsUnsigned}
 use Rattle.std.specs.Result.{OkIff, IfOk, IfErr}
 use mir.Val.{bits, hbits}
-use Rattle.facet_json_document.specs.Tree.{i64, u64}
-use Rattle.facet_json_document.specs.AsRead.{WellFormed, RawParts}
+use Rattle.facet_json_grammar.specs.Tree.{i64, u64}
+use Rattle.facet_json_grammar.specs.AsRead.{WellFormed, RawParts}
 use Rattle.facet_json_tree.specs.Write.{IsOfRust}
 use Rattle.facet_json_tree.proofs.OfRust.{fits-within}
 use Rattle.facet_json_core.specs.Meaning.Readings.{signed_in, unsigned_in}

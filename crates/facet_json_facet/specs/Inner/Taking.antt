@@ -5,9 +5,9 @@ use Rattle.facet_format.specs.Complaint.{Refusal, no_memory}
 use Rattle.facet_format.specs.Event.{Event, array}
 use Rattle.facet_format.specs.Span.{stop}
 use Rattle.facet_format.specs.Views.{refusal_of, span_of}
-use Rattle.facet_json_document.specs.Now.{Now, ahead, GoesOn}
-use Rattle.facet_json_document.specs.Next.{PassesNext}
-use Rattle.facet_json_document.specs.Tree.{Tree}
+use Rattle.facet_json_grammar.specs.Now.{Now, ahead, GoesOn}
+use Rattle.facet_json_grammar.specs.Next.{PassesNext}
+use Rattle.facet_json_grammar.specs.Tree.{Tree}
 use Rattle.facet_json_core.specs.Meaning.Inner.Taking.{Takes}
 use Rattle.facet_json_core.specs.Meaning.ListSteps.{ends_list}
 use Rattle.facet_json_core.specs.Meaning.OneValue.{PassesByKind, PassesEndOf, PassesValue}

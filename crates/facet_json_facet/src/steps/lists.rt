@@ -3,7 +3,7 @@
 ghost use Rattle.std.specs.Prelude.{◌≡◌, ◌<◌, true, false, Some, codes, IfOk, IfErr, OnOk};
 ghost use Rattle.facet_format.specs.Event.{array};
 ghost use Rattle.facet_format.specs.Views.{event_of};
-ghost use Rattle.facet_json_document.specs.Now.{GoesOn};
+ghost use Rattle.facet_json_grammar.specs.Now.{GoesOn};
 ghost use Rattle.facet_json_core.specs.Refusing.{mismatch_of};
 ghost use Rattle.facet_json_core.specs.Meaning.ListSteps.{begins_list, ends_list, BeginsList, IsNoList};
 ghost use Rattle.facet_json_core.specs.Meaning.Peeking.{Finds};

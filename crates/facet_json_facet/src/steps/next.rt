@@ -4,8 +4,8 @@ ghost use Rattle.std.specs.Prelude.{◌≡◌, ◌≤◌, ◌<◌, ◌+◌, true
 ghost use Rattle.facet_format.specs.Span.{stop};
 ghost use Rattle.facet_format.specs.Views.{event_of, span_of};
 ghost use Rattle.facet_json_facet.specs.Inner.Taking.{TakesNext, TakesNull};
-ghost use Rattle.facet_json_document.specs.Now.{GoesOn};
-ghost use Rattle.facet_json_document.specs.Next.{PassesNext};
+ghost use Rattle.facet_json_grammar.specs.Now.{GoesOn};
+ghost use Rattle.facet_json_grammar.specs.Next.{PassesNext};
 ghost use Rattle.facet_json_core.specs.Refusing.{mismatch_of};
 ghost use Rattle.facet_json_core.specs.Meaning.Passing.{WalksPast, LacksAlone, PassesNull, LacksNull};
 ghost use Rattle.facet_json_core.specs.Meaning.OneValue.{PassesByKind, LooksAhead};

@@ -5,7 +5,7 @@ ghost use Rattle.std.specs.Option.{option_map};
 ghost use Rattle.facet_format.specs.Event.{bytes_of, object};
 ghost use Rattle.facet_format.specs.HeldText.{text_of};
 ghost use Rattle.facet_format.specs.Views.{event_of};
-ghost use Rattle.facet_json_document.specs.Now.{GoesOn};
+ghost use Rattle.facet_json_grammar.specs.Now.{GoesOn};
 ghost use Rattle.facet_json_core.specs.Refusing.{mismatch_of};
 ghost use Rattle.facet_json_core.specs.Meaning.Objects.{begins_object, key_or_end, BeginsObject, IsNoObject, PassesKey, LacksKey};
 ghost use Rattle.facet_json_core.specs.Meaning.OneValue.{IsInside, PassesMemberOrEnd};

@@ -6,8 +6,8 @@ use Rattle.facet_json_token.specs.Gap.{Mode}
 use Rattle.facet_json_token.specs.Token.{Kind, Token}
 use Rattle.facet_json_token.specs.Tokens.{Tokens, next}
 use Rattle.facet_json_token.specs.TokenList.{tokens_from}
-use Rattle.facet_json_document.specs.Run.{opening}
-use Rattle.facet_json_document.specs.Inner.PassedRun.{Outcome, passed}
+use Rattle.facet_json_grammar.specs.Run.{opening}
+use Rattle.facet_json_grammar.specs.Inner.PassedRun.{Outcome, passed}
 use Rattle.facet_json_reader.specs.PlaceViews.{refused_of}
 use Rattle.facet_json_reader.specs.declared.refusal.Refused.{Refused}
 use Rattle.facet_json_parser.specs.RunViews.{IsRunRefused}

@@ -5,7 +5,7 @@ use Rattle.facet_json_token.specs.Gap.{Mode}
 use Rattle.facet_json_token.specs.Cut.{past_gap}
 use Rattle.facet_json_token.specs.Token.{Token}
 use Rattle.facet_json_token.specs.TokenList.{tokens_from}
-use Rattle.facet_json_document.specs.Inner.PassedRun.{passed}
+use Rattle.facet_json_grammar.specs.Inner.PassedRun.{passed}
 
 -- Where brackets are open, a run goes on from the one offset as from the other: the tokens between open and close nothing.
 pub record RunLeadsOn (buffer : List ℕ) (mode : Mode) (from to : ℕ) : Type 0 where

@@ -3,11 +3,11 @@ use Rattle.std.specs.Prelude.{◌≡◌, ◌≢◌, ◌<◌, Some, Ok}
 use Rattle.facet_format.specs.Cursor.{event, next}
 use Rattle.facet_format.specs.Event.{Event, EventKind, Passed}
 use Rattle.facet_format.specs.Steps.{IsStep}
-use Rattle.facet_json_document.specs.Future.{Future, gives}
-use Rattle.facet_json_document.specs.Move.{Moves}
-use Rattle.facet_json_document.specs.Next.{PassesNext}
-use Rattle.facet_json_document.specs.Now.{Now, StandsAt, ahead, GoesOn}
-use Rattle.facet_json_document.specs.Within.{AnswerWithin}
+use Rattle.facet_json_grammar.specs.Future.{Future, gives}
+use Rattle.facet_json_grammar.specs.Move.{Moves}
+use Rattle.facet_json_grammar.specs.Next.{PassesNext}
+use Rattle.facet_json_grammar.specs.Now.{Now, StandsAt, ahead, GoesOn}
+use Rattle.facet_json_grammar.specs.Within.{AnswerWithin}
 
 -- The event came next and is passed, as `next_event` passes it.
 pub record PassesWanted (old : Now) (given : Event) (new : Now) : Type 0 where

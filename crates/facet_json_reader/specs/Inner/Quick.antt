@@ -6,10 +6,10 @@ use Rattle.facet_format.specs.Event.{EventKind, Scalar, Event, Passed}
 use Rattle.facet_format.specs.Event as event
 use Rattle.facet_format.specs.Span.{Span}
 use Rattle.facet_json_token.specs.Cut.{past_gap}
-use Rattle.facet_json_document.specs.Future.{Future, gives, within}
-use Rattle.facet_json_document.specs.Language.{Language, gaps}
-use Rattle.facet_json_document.specs.Reader.{past}
-use Rattle.facet_json_document.specs.Place.{Place, root, after_colon, before_item, next_item}
+use Rattle.facet_json_grammar.specs.Future.{Future, gives, within}
+use Rattle.facet_json_grammar.specs.Language.{Language, gaps}
+use Rattle.facet_json_grammar.specs.Reader.{past}
+use Rattle.facet_json_grammar.specs.Place.{Place, root, after_colon, before_item, next_item}
 use Rattle.facet_json_reader.specs.Views.{reader_of, comes_at, coming}
 
 -- The places where a value may stand.

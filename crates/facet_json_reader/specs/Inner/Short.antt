@@ -6,8 +6,8 @@ use Rattle.facet_format.specs.Span.{span_at}
 use Rattle.facet_json_token.specs.Cut.{cut_here, token_at}
 use Rattle.facet_json_token.specs.Gap.{Mode}
 use Rattle.facet_json_token.specs.Token.{number}
-use Rattle.facet_json_document.specs.Language.{Language}
-use Rattle.facet_json_document.specs.StrictTokens.{Allows}
+use Rattle.facet_json_grammar.specs.Language.{Language}
+use Rattle.facet_json_grammar.specs.StrictTokens.{Allows}
 use Rattle.facet_json_reader.specs.declared.number.Whole.{Whole}
 use Rattle.facet_json_reader.specs.Inner.Whole.{whole_scalar}
 use Rattle.facet_json_reader.specs.Values.{IsScalarThere}

@@ -1,7 +1,7 @@
 -- What the calls do to a text that is held by itself, without a mark whether memory ran out.
 use Rattle.std.specs.Prelude.{◌≡◌, ℕ, Bool, List, ◌++◌, length, Option, None, Result, Ok, Err}
 use Rattle.facet_format.specs.SerializerCall.{SerializerCall}
-use Rattle.facet_json_document.specs.Text.{Options, line_at_end}
+use Rattle.facet_json_grammar.specs.Text.{Options, line_at_end}
 use Rattle.facet_json_serializer.specs.Inner.Open.{around_innermost}
 use Rattle.facet_json_serializer.specs.Serializer.{Opened, Writing, Addition, Misfit, WriteRefusal, misfits, out_of_memory, addition, appended, before_value, after_written}
 

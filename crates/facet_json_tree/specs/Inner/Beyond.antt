@@ -3,9 +3,9 @@ use Rattle.std.specs.Prelude.{◌≡◌, ◌≢◌, ◌⊎◌, ℕ, zero, suc, L
 use Rattle.facet_format.specs.Complaint.{Refusal}
 use Rattle.facet_format.specs.Span.{Span}
 use Rattle.facet_json_token.specs.Tokens.{Tokens}
-use Rattle.facet_json_document.specs.Place.{Place}
-use Rattle.facet_json_document.specs.Tree.{Tree}
-use Rattle.facet_json_document.specs.Future.{Future, finished}
+use Rattle.facet_json_grammar.specs.Place.{Place}
+use Rattle.facet_json_grammar.specs.Tree.{Tree}
+use Rattle.facet_json_grammar.specs.Future.{Future, finished}
 use Rattle.facet_json_core.specs.Told.{Tells, Breaks}
 use Rattle.facet_json_core.specs.Reading.{LacksMemory, IsUnreadBy, IsValueRead}
 use Rattle.facet_json_tree.specs.Depth.{beyond, too_deep_at}

@@ -2,9 +2,9 @@
 use Rattle.std.specs.Prelude.{◌≡◌, ◌≤◌, ℕ, true, false, List, Option, None, Some}
 use Rattle.facet_format.specs.Complaint.{Refusal}
 use Rattle.facet_format.specs.Event.{Event, EventKind, ContainerKind, array, object, Scalar, scalar, Text, bytes_of, field_key, struct_start, sequence_start, Passed}
-use Rattle.facet_json_document.specs.Tree.{Tree, Trees, no_trees, Pairs, no_pairs, list, pairs}
-use Rattle.facet_json_document.specs.Future.{Future, gives}
-use Rattle.facet_json_document.specs.Now.{Now, ahead, future_of, SameInput}
+use Rattle.facet_json_grammar.specs.Tree.{Tree, Trees, no_trees, Pairs, no_pairs, list, pairs}
+use Rattle.facet_json_grammar.specs.Future.{Future, gives}
+use Rattle.facet_json_grammar.specs.Now.{Now, ahead, future_of, SameInput}
 use Rattle.facet_json_core.specs.Told.{tree_of_scalar, opens, begins, TellsItems, TellsMembers, BreaksItems, BreaksMembers}
 use Rattle.facet_json_core.specs.Reading.{LacksMemory, IsReadBy, IsUnreadBy, IsValueRead}
 use Rattle.facet_json_core.specs.Meaning.OneValue.{PassesEndOf, PassesKeyInside, PassesByKind}

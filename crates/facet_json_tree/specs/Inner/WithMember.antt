@@ -1,6 +1,6 @@
 -- Members among which one has a name.
 use Rattle.std.specs.Prelude.{ℕ, List, is_none, if◌then◌else◌}
-use Rattle.facet_json_document.specs.Tree.{Tree, Pairs}
+use Rattle.facet_json_grammar.specs.Tree.{Tree, Pairs}
 use Rattle.facet_json_tree.specs.Edit.{set_member}
 use Rattle.facet_json_tree.specs.Lookup.{last_member}
 

@@ -1,4 +1,4 @@
-use Rattle.facet_json_document.specs.Now.{ahead}
+use Rattle.facet_json_grammar.specs.Now.{ahead}
 use Rattle.facet_json_core.specs.Meaning.Nodes.{KeepsOn}
 use Rattle.facet_json_tree.specs.Pointer.{index}
 use Rattle.facet_json.proofs.ItemsPassed.{AreLeft}

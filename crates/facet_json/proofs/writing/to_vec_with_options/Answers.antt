@@ -1,7 +1,7 @@
 use Rattle.std.proofs.Common.{◌≡◌, rules}
 use Rattle.std.specs.Prelude.{IsUtf8, IfOk}
 use Rattle.std.proofs.lemmas.Result.{err_from_is_err_and}
-use Rattle.facet_json_document.specs.Text.{text}
+use Rattle.facet_json_grammar.specs.Text.{text}
 use Rattle.facet_json_serializer.specs.OptionsViews.{options_of}
 use Rattle.facet_json_tree.proofs.ReadBack.{answered-readable}
 use Rattle.facet_json_tree.proofs.Utf8Text.{answered-utf8}

@@ -1,8 +1,8 @@
 use Rattle.std.proofs.Common.{◌≡◌, ℕ, List, refl, ap, ◌∙◌}
 use Rattle.std.proofs.lemmas.Result.{IfOk-weaker}
-use Rattle.facet_json_document.specs.Tree as tree
-use Rattle.facet_json_document.specs.Quoted.{quoted}
-use Rattle.facet_json_document.specs.Text.{default_options, text}
+use Rattle.facet_json_grammar.specs.Tree as tree
+use Rattle.facet_json_grammar.specs.Quoted.{quoted}
+use Rattle.facet_json_grammar.specs.Text.{default_options, text}
 use Rattle.facet_json_command.proofs.lines.quoted.Goals as goal
 use Rattle.facet_json_tree.proofs.TreeViews.{tree_view-Text}
 use Rattle.facet_format.proofs.HeldTexts.{held-bytes}

@@ -1,7 +1,7 @@
 use Rattle.std.proofs.Common.{refl, subst, ◌∙◌, inr}
 use Rattle.std.proofs.lemmas.Result.{err_from_is_err_and}
 use Rattle.facet_format.specs.Views.{parse_refusal}
-use Rattle.facet_json_document.specs.UnreadLaws.{RefusalWithin}
+use Rattle.facet_json_grammar.specs.UnreadLaws.{RefusalWithin}
 use Rattle.facet_json_command.proofs.Printing.{stops_within}
 use Rattle.facet_json_command.proofs.Listing.{none_so_far, one_more_event, last_answer, line_stopped}
 use Rattle.facet_json_command.proofs.run.list_ahead.Goals as goal

@@ -1,6 +1,6 @@
 use Rattle.std.proofs.Common.{◌≡◌, ℕ, List}
-use Rattle.facet_json_document.specs.Language.{Language}
-use Rattle.facet_json_document.specs.Now.{fresh_in, ahead}
+use Rattle.facet_json_grammar.specs.Language.{Language}
+use Rattle.facet_json_grammar.specs.Now.{fresh_in, ahead}
 use Rattle.facet_json_command.proofs.Listing.{AreSoFar}
 use Rattle.facet_json_command.proofs.run.list_ahead.Given as goal
 

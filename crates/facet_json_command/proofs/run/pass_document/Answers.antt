@@ -1,7 +1,7 @@
 use Rattle.std.proofs.Common.{◌≡◌}
 use Rattle.std.proofs.lemmas.Result.{err_from_is_err_and}
-use Rattle.facet_json_document.specs.Future.{finished}
-use Rattle.facet_json_document.specs.Now.{future_of}
+use Rattle.facet_json_grammar.specs.Future.{finished}
+use Rattle.facet_json_grammar.specs.Now.{future_of}
 use Rattle.facet_json_command.proofs.Reformatting.{document_passed, where_document}
 use Rattle.facet_json_command.proofs.run.pass_document.Goals as goal
 

@@ -1,6 +1,6 @@
 use Rattle.std.proofs.Common.{length, refl, inl, subst}
 use Rattle.std.proofs.lemmas.Result.{IfOk-weaker, IfErr-weaker}
-use Rattle.facet_json_document.specs.Now.{Now}
+use Rattle.facet_json_grammar.specs.Now.{Now}
 use Rattle.facet_json_core.specs.TranscodeViews.{ErrorWithin}
 use Rattle.facet_json_command.proofs.Reformatting.{refusal_is}
 use Rattle.facet_json_command.proofs.run.reformatted.Goals as goal

@@ -7,14 +7,14 @@ use Rattle.facet_format.specs.Event.{Event, EventKind}
 use Rattle.facet_format.specs.Event as event
 use Rattle.facet_json_token.specs.Token.{Kind, Token}
 use Rattle.facet_json_token.specs.Token as token
-use Rattle.facet_json_document.specs.Node.{Node, scalar}
-use Rattle.facet_json_document.specs.Node as node
-use Rattle.facet_json_document.specs.Meaning.{meaning}
-use Rattle.facet_json_document.specs.Tree.{Tree}
-use Rattle.facet_json_document.specs.Tree as trees
-use Rattle.facet_json_document.specs.Walk.{walk, text_by, scalar_of}
-use Rattle.facet_json_document.specs.Now.{Now}
-use Rattle.facet_json_document.specs.Next.{PassesNext}
+use Rattle.facet_json_grammar.specs.Node.{Node, scalar}
+use Rattle.facet_json_grammar.specs.Node as node
+use Rattle.facet_json_grammar.specs.Meaning.{meaning}
+use Rattle.facet_json_grammar.specs.Tree.{Tree}
+use Rattle.facet_json_grammar.specs.Tree as trees
+use Rattle.facet_json_grammar.specs.Walk.{walk, text_by, scalar_of}
+use Rattle.facet_json_grammar.specs.Now.{Now}
+use Rattle.facet_json_grammar.specs.Next.{PassesNext}
 use Rattle.facet_json_core.specs.Meaning.Nodes.{SameToken, same_mark, same_string, same_number, same_scalars, same_arrays, same_objects}
 use Rattle.facet_json_core.specs.Meaning.Borrowed.{is_plain_string, borrowed_text, lent, unread_text}
 use Rattle.facet_json_core.specs.Meaning.Laws.{SameReading, ReadsBack}

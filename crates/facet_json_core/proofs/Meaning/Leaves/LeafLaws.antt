@@ -6,17 +6,17 @@ use Rattle.facet_json_token.specs.Decoded.{decoded}
 use Rattle.facet_format.specs.NumberValue.{number}
 use Rattle.facet_json_token.specs.Token.{Kind, Token}
 use Rattle.facet_json_token.specs.Token as token
-use Rattle.facet_json_document.specs.Node.{Node, scalar}
-use Rattle.facet_json_document.specs.Node as node
-use Rattle.facet_json_document.specs.Tree.{Tree, Trees, Pairs}
-use Rattle.facet_json_document.specs.Tree as trees
-use Rattle.facet_json_document.specs.Meaning.{meaning_of, meaning, tree_of_number, tree_of, trees_of, pairs_of}
-use Rattle.facet_json_document.specs.Text.{as_array, text, default_options}
-use Rattle.facet_json_document.proofs.TreesOfParts.{list_meant, object_meant}
-use Rattle.facet_json_document.specs.AsRead.{RawParts, WellFormed, IsDocumentText}
-use Rattle.facet_json_document.specs.AsRead as written
-use Rattle.facet_json_document.proofs.Values.TreeTexts.{written_is_read}
-use Rattle.facet_json_document.specs.Refusal.{needs_meaning}
+use Rattle.facet_json_grammar.specs.Node.{Node, scalar}
+use Rattle.facet_json_grammar.specs.Node as node
+use Rattle.facet_json_grammar.specs.Tree.{Tree, Trees, Pairs}
+use Rattle.facet_json_grammar.specs.Tree as trees
+use Rattle.facet_json_grammar.specs.Meaning.{meaning_of, meaning, tree_of_number, tree_of, trees_of, pairs_of}
+use Rattle.facet_json_grammar.specs.Text.{as_array, text, default_options}
+use Rattle.facet_json_grammar.proofs.TreesOfParts.{list_meant, object_meant}
+use Rattle.facet_json_grammar.specs.AsRead.{RawParts, WellFormed, IsDocumentText}
+use Rattle.facet_json_grammar.specs.AsRead as written
+use Rattle.facet_json_grammar.proofs.Values.TreeTexts.{written_is_read}
+use Rattle.facet_json_grammar.specs.Refusal.{needs_meaning}
 use Rattle.facet_json_core.specs.Meaning.Nodes.{SameToken, same_mark, same_string, same_number, same_scalars, same_arrays, same_objects}
 use Rattle.facet_json_core.specs.Meaning.Laws.{SameReading, ReadsAs}
 use Rattle.facet_json_core.specs.Meaning.Readings.{leaf}

@@ -8,15 +8,15 @@ use Rattle.facet_format.specs.Event as event
 use Rattle.facet_format.specs.Cursor.{Cursor, at_spot, unpeeked}
 use Rattle.facet_format.specs.Part.{Source}
 use Rattle.facet_json_token.specs.Tokens.{Tokens}
-use Rattle.facet_json_document.specs.Node.{Node, scalar}
-use Rattle.facet_json_document.specs.Node as node
-use Rattle.facet_json_document.specs.Tree.{Tree}
-use Rattle.facet_json_document.specs.Meaning.{tree_of}
-use Rattle.facet_json_document.specs.Place.{Place}
-use Rattle.facet_json_document.specs.Walk.{walk, event_at, scalar_event}
-use Rattle.facet_json_document.specs.Future.{Future, gives, finished}
-use Rattle.facet_json_document.specs.Now.{Now, future_of}
-use Rattle.facet_json_document.specs.Next.{PassesNext}
+use Rattle.facet_json_grammar.specs.Node.{Node, scalar}
+use Rattle.facet_json_grammar.specs.Node as node
+use Rattle.facet_json_grammar.specs.Tree.{Tree}
+use Rattle.facet_json_grammar.specs.Meaning.{tree_of}
+use Rattle.facet_json_grammar.specs.Place.{Place}
+use Rattle.facet_json_grammar.specs.Walk.{walk, event_at, scalar_event}
+use Rattle.facet_json_grammar.specs.Future.{Future, gives, finished}
+use Rattle.facet_json_grammar.specs.Now.{Now, future_of}
+use Rattle.facet_json_grammar.specs.Next.{PassesNext}
 use Rattle.facet_json_core.specs.Told.{tree_of_scalar, Tells, a_scalar, a_list, an_object, Breaks, in_list, in_object}
 use Rattle.facet_json_core.specs.Reading.{IsValueRead}
 use Rattle.facet_json_core.proofs.WalkTells.{walk-tells}

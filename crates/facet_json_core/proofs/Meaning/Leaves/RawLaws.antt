@@ -2,12 +2,12 @@
 use Rattle.std.proofs.Common.{◌≡◌, ℕ, ◌-◌, true, cond, List, length, Option, Some, None, ap, ◌∙◌, arith}
 use Rattle.std.specs.Str.{is_utf8}
 use Rattle.std.proofs.lemmas.List.{take_all}
-use Rattle.facet_json_document.specs.RunLaws.{last_token_of}
-use Rattle.facet_json_document.specs.Text.{text}
-use Rattle.facet_json_document.specs.Tree.{raw}
-use Rattle.facet_json_document.specs.UnreadLaws.{first_token}
-use Rattle.facet_json_document.specs.SkipLaws.{bytes_between}
-use Rattle.facet_json_document.specs.AsRead.{RawParts}
+use Rattle.facet_json_grammar.specs.RunLaws.{last_token_of}
+use Rattle.facet_json_grammar.specs.Text.{text}
+use Rattle.facet_json_grammar.specs.Tree.{raw}
+use Rattle.facet_json_grammar.specs.UnreadLaws.{first_token}
+use Rattle.facet_json_grammar.specs.SkipLaws.{bytes_between}
+use Rattle.facet_json_grammar.specs.AsRead.{RawParts}
 use Rattle.facet_json_core.specs.Meaning.Nodes.{same_scalars, same_arrays, same_objects}
 use Rattle.facet_json_core.specs.Meaning.Laws.{SameReading, ReadsBack}
 use Rattle.facet_json_core.specs.Meaning.Readings.{raw_of, IsBareDocument}

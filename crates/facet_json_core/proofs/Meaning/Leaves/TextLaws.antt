@@ -1,9 +1,9 @@
 -- Texts come back from their text.
 use Rattle.std.proofs.Common.{◌≡◌, ℕ, true, List, Some, refl}
 use Rattle.std.specs.Str.{is_utf8}
-use Rattle.facet_json_document.specs.Text.{as_array}
-use Rattle.facet_json_document.specs.Tree.{Tree, text}
-use Rattle.facet_json_document.specs.AsRead.{ReadsAs, text_is_itself, RawParts, WellFormed}
+use Rattle.facet_json_grammar.specs.Text.{as_array}
+use Rattle.facet_json_grammar.specs.Tree.{Tree, text}
+use Rattle.facet_json_grammar.specs.AsRead.{ReadsAs, text_is_itself, RawParts, WellFormed}
 use Rattle.facet_json_core.specs.Meaning.Laws.{ReadsBack}
 use Rattle.facet_json_core.specs.Meaning.Readings.{leaf, text_of_tree}
 use Rattle.facet_json_core.proofs.Meaning.Leaves.LeafLaws.{leaf-back}

@@ -1,8 +1,8 @@
 -- Truth values come back from their text.
 use Rattle.std.proofs.Common.{◌≡◌, Bool, Some, refl}
-use Rattle.facet_json_document.specs.Text.{as_array}
-use Rattle.facet_json_document.specs.Tree.{Tree, bool}
-use Rattle.facet_json_document.specs.AsRead.{ReadsAs, bool_is_itself, RawParts, WellFormed}
+use Rattle.facet_json_grammar.specs.Text.{as_array}
+use Rattle.facet_json_grammar.specs.Tree.{Tree, bool}
+use Rattle.facet_json_grammar.specs.AsRead.{ReadsAs, bool_is_itself, RawParts, WellFormed}
 use Rattle.facet_json_core.specs.Meaning.Laws.{ReadsBack}
 use Rattle.facet_json_core.specs.Meaning.Readings.{leaf, bool_of}
 use Rattle.facet_json_core.proofs.Meaning.Leaves.LeafLaws.{leaf-back}

@@ -5,9 +5,9 @@ use Rattle.std.specs.Int.{Width, FitsUnsigned}
 use Rattle.std.proofs.lemmas.Bool.{ltb-true, lt-ltb}
 use mir.Val.{bits, hbits}
 use lib.Dec.{ltb→lt, lt→ltb, le→leb}
-use Rattle.facet_json_document.specs.Text.{as_array}
-use Rattle.facet_json_document.specs.Tree.{Tree, u64, i64}
-use Rattle.facet_json_document.specs.AsRead.{ReadsAs, u64_is_whole, i64_is_whole, FitsBits, RawParts, WellFormed}
+use Rattle.facet_json_grammar.specs.Text.{as_array}
+use Rattle.facet_json_grammar.specs.Tree.{Tree, u64, i64}
+use Rattle.facet_json_grammar.specs.AsRead.{ReadsAs, u64_is_whole, i64_is_whole, FitsBits, RawParts, WellFormed}
 use Rattle.facet_json_core.specs.Meaning.Laws.{ReadsBack}
 use Rattle.facet_json_core.specs.Meaning.Readings.{leaf, unsigned_in, signed_in, unsigned_of, signed_of}
 use Rattle.facet_json_core.proofs.Meaning.Leaves.LeafLaws.{leaf-back}

@@ -10,9 +10,9 @@ use Rattle.std.proofs.lemmas.Slice.Eq.{bytes_eq-Decides}
 use Rattle.std.proofs.lemmas.Result.{Ok-from_Ok_iff, OkIff-at_ok}
 use Rattle.std.proofs.lemmas.Str.Parse.{numerals_by_value, tells_digits, not_in_digits, without_leading_plus_none, parse_signed_minus, parse_signed_digits}
 use Rattle.std.proofs.lemmas.Bool.{ltb-true, lt-ltb, ne_eqb}
-use Rattle.facet_json_document.specs.Text.{as_array}
-use Rattle.facet_json_document.specs.Tree.{Tree, u64, i64, u128, i128, text}
-use Rattle.facet_json_document.specs.AsRead.{ReadsAs, u128_is_whole, i128_is_whole, FitsBits, RawParts, WellFormed}
+use Rattle.facet_json_grammar.specs.Text.{as_array}
+use Rattle.facet_json_grammar.specs.Tree.{Tree, u64, i64, u128, i128, text}
+use Rattle.facet_json_grammar.specs.AsRead.{ReadsAs, u128_is_whole, i128_is_whole, FitsBits, RawParts, WellFormed}
 use Rattle.facet_json_core.specs.Meaning.Laws.{ReadsBack}
 use Rattle.facet_json_core.specs.Meaning.Readings.{leaf, unsigned_in, signed_in, unsigned_text, signed_text, u128_of, i128_of}
 use Rattle.facet_json_core.proofs.Meaning.Leaves.LeafLaws.{leaf-back}

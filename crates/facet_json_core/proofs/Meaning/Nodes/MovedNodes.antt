@@ -9,12 +9,12 @@ use Rattle.facet_json_token.specs.Tokens.{Tokens, ended, refused, next}
 use Rattle.facet_json_token.specs.TokenList.{tokens_from}
 use Rattle.facet_json_token.proofs.CutBounds.{KindFits, TokenFits, cut-token_fits}
 use Rattle.facet_json_token.proofs.TokensSteps.{tokens_by_first, tokens_from-others}
-use Rattle.facet_json_document.specs.Node.{Node, Nodes, no_nodes, Members, no_members, Spells, one_token, brackets, braces, SpellsItems, closed, item_and_comma, last_item, SpellsMembers, ended_members, member_and_comma, last_member}
-use Rattle.facet_json_document.specs.Refusal.{needs_meaning}
-use Rattle.facet_json_document.specs.SkipLaws.{bytes_between}
-use Rattle.facet_json_document.proofs.Cuts.MovedTokens.{moved_kind, moved, moved_node, moved_nodes, moved_members, moved-stop}
-use Rattle.facet_json_document.proofs.Values.OneValue.{IsLeft}
-use Rattle.facet_json_document.proofs.Values.RawValues.{slice-moved, first-token}
+use Rattle.facet_json_grammar.specs.Node.{Node, Nodes, no_nodes, Members, no_members, Spells, one_token, brackets, braces, SpellsItems, closed, item_and_comma, last_item, SpellsMembers, ended_members, member_and_comma, last_member}
+use Rattle.facet_json_grammar.specs.Refusal.{needs_meaning}
+use Rattle.facet_json_grammar.specs.SkipLaws.{bytes_between}
+use Rattle.facet_json_grammar.proofs.Cuts.MovedTokens.{moved_kind, moved, moved_node, moved_nodes, moved_members, moved-stop}
+use Rattle.facet_json_grammar.proofs.Values.OneValue.{IsLeft}
+use Rattle.facet_json_grammar.proofs.Values.RawValues.{slice-moved, first-token}
 use Rattle.facet_json_core.specs.Meaning.Nodes.{SameToken, same_mark, same_string, same_number, SameText, same_scalars, same_arrays, same_objects, SameItems, same_none, same_first, SameMembers, same_no_members, same_member}
 
 -- ---- the tokens of a text

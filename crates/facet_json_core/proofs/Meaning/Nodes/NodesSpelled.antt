@@ -6,10 +6,10 @@ use Rattle.facet_json_token.specs.Token.{Token}
 use Rattle.facet_json_token.specs.Tokens.{Tokens, next}
 use Rattle.facet_json_token.specs.TokenList.{tokens_from}
 use Rattle.facet_json_token.proofs.TokensSteps.{tokens_from-others}
-use Rattle.facet_json_document.specs.Node.{Node, Nodes, Members, Spells, brackets, braces, SpellsItems, closed, item_and_comma, last_item, SpellsMembers, ended_members, member_and_comma, last_member}
-use Rattle.facet_json_document.specs.RunLaws.{last_token_of}
-use Rattle.facet_json_document.proofs.Parts.TokensAfterRuns.{tokens_from-run}
-use Rattle.facet_json_document.proofs.Runs.SpelledRuns.{spelled_is_run}
+use Rattle.facet_json_grammar.specs.Node.{Node, Nodes, Members, Spells, brackets, braces, SpellsItems, closed, item_and_comma, last_item, SpellsMembers, ended_members, member_and_comma, last_member}
+use Rattle.facet_json_grammar.specs.RunLaws.{last_token_of}
+use Rattle.facet_json_grammar.proofs.Parts.TokensAfterRuns.{tokens_from-run}
+use Rattle.facet_json_grammar.proofs.Runs.SpelledRuns.{spelled_is_run}
 use Rattle.facet_json_core.specs.Meaning.SameBytes.{IsSpelledIn, IsNodeOf, itself, in_list, in_object, IsAmongItems, in_first, in_others, IsAmongMembers, in_value, in_later, DocumentNodesAreSpelled}
 
 module _ (buffer : List ℕ) (mode : Mode) where

@@ -9,18 +9,18 @@ use Rattle.facet_json_token.specs.Tokens.{Tokens, next}
 use Rattle.facet_json_token.specs.TokenList.{tokens_from}
 use Rattle.facet_json_token.proofs.CutBounds.{TokenFits, cut-token_fits}
 use Rattle.facet_json_token.proofs.TokensSteps.{cut-token_within, by_first, tokens_by_first, tokens_from-others}
-use Rattle.facet_json_document.specs.Node.{Node, scalar, array, object, Nodes, no_nodes, item, Members, no_members, member, is_scalar, is_string, Spells, one_token, brackets, braces, SpellsItems, closed, item_and_comma, last_item, SpellsMembers, ended_members, member_and_comma, last_member}
-use Rattle.facet_json_document.specs.Refusal.{needs_meaning}
-use Rattle.facet_json_document.specs.RunLaws.{last_token_of}
-use Rattle.facet_json_document.specs.UnreadLaws.{first_token}
-use Rattle.facet_json_document.proofs.InOrder.{InOrder}
-use Rattle.facet_json_document.proofs.Spelling.OneSpelling.{one_spelling}
-use Rattle.facet_json_document.proofs.Spelling.PlainIsJsonc.{cut-either}
-use Rattle.facet_json_document.proofs.TokensInOrder.{tokens-in_order}
-use Rattle.facet_json_document.proofs.Cuts.CutsWithin.{part, cut-within, cut-again}
-use Rattle.facet_json_document.proofs.Cuts.MovedTokens.{moved_kind, moved, moved-stop, moved-is_scalar, moved-is_string}
-use Rattle.facet_json_document.proofs.Values.OneValue.{IsLeft}
-use Rattle.facet_json_document.specs.SkipLaws.{bytes_between}
+use Rattle.facet_json_grammar.specs.Node.{Node, scalar, array, object, Nodes, no_nodes, item, Members, no_members, member, is_scalar, is_string, Spells, one_token, brackets, braces, SpellsItems, closed, item_and_comma, last_item, SpellsMembers, ended_members, member_and_comma, last_member}
+use Rattle.facet_json_grammar.specs.Refusal.{needs_meaning}
+use Rattle.facet_json_grammar.specs.RunLaws.{last_token_of}
+use Rattle.facet_json_grammar.specs.UnreadLaws.{first_token}
+use Rattle.facet_json_grammar.proofs.InOrder.{InOrder}
+use Rattle.facet_json_grammar.proofs.Spelling.OneSpelling.{one_spelling}
+use Rattle.facet_json_grammar.proofs.Spelling.PlainIsJsonc.{cut-either}
+use Rattle.facet_json_grammar.proofs.TokensInOrder.{tokens-in_order}
+use Rattle.facet_json_grammar.proofs.Cuts.CutsWithin.{part, cut-within, cut-again}
+use Rattle.facet_json_grammar.proofs.Cuts.MovedTokens.{moved_kind, moved, moved-stop, moved-is_scalar, moved-is_string}
+use Rattle.facet_json_grammar.proofs.Values.OneValue.{IsLeft}
+use Rattle.facet_json_grammar.specs.SkipLaws.{bytes_between}
 use Rattle.facet_json_core.specs.Meaning.Laws.{SameReading}
 use Rattle.facet_json_core.specs.Meaning.Nodes.{SameToken, SameText, same_scalars, same_arrays, same_objects, SameItems, same_none, same_first, SameMembers, same_no_members, same_member}
 use Rattle.facet_json_core.specs.Meaning.SameBytes.{node_bytes, SameBytesSameText, ReadsBytesAlike}

@@ -2,8 +2,8 @@
 use Rattle.std.proofs.Common.{◌≡◌, ℕ, Bool, List, sym, ap, ◌∙◌, true≢false}
 use Rattle.std.specs.Prelude.{slice_range}
 use Rattle.facet_json_token.specs.Token.{Token, string, number}
-use Rattle.facet_json_document.specs.Node.{Node, Nodes, Members}
-use Rattle.facet_json_document.specs.Refusal.{needs_meaning}
+use Rattle.facet_json_grammar.specs.Node.{Node, Nodes, Members}
+use Rattle.facet_json_grammar.specs.Refusal.{needs_meaning}
 use Rattle.facet_json_core.specs.Meaning.Nodes.{SameToken, same_mark, same_string, same_number, SameText, same_scalars, same_arrays, same_objects, SameItems, same_none, same_first, SameMembers, same_no_members, same_member}
 
 module _ (raw these those : List ℕ) where

@@ -6,16 +6,16 @@ use Rattle.facet_json_token.specs.Gap.{plain}
 use Rattle.facet_json_token.specs.Tokens.{ended}
 use Rattle.facet_json_token.specs.TokenList.{tokens_from}
 use Rattle.facet_json_token.proofs.TokensSteps.{cut-end, tokens_from-nothing}
-use Rattle.facet_json_document.specs.Document.{Reads}
-use Rattle.facet_json_document.specs.Node.{Node}
-use Rattle.facet_json_document.specs.Quoted.{quoted}
-use Rattle.facet_json_document.specs.Text.{text, items_text, members_text, new_line, separator, colon_text, default_options}
-use Rattle.facet_json_document.specs.Tree.{Tree, null, unit, bool, char, i64, u64, i128, u128, decimal, bytes, raw, list, pairs, Trees, no_trees, tree, Pairs, no_pairs, pair}
-use Rattle.facet_json_document.specs.Tree as trees
-use Rattle.facet_json_document.proofs.Cuts.MovedTokens.{moved_node}
-use Rattle.facet_json_document.proofs.Scalars.OneToken.{ends_number}
-use Rattle.facet_json_document.proofs.Values.OneValue.{IsLeft}
-use Rattle.facet_json_document.proofs.Values.RawValues.{document-moved}
+use Rattle.facet_json_grammar.specs.Document.{Reads}
+use Rattle.facet_json_grammar.specs.Node.{Node}
+use Rattle.facet_json_grammar.specs.Quoted.{quoted}
+use Rattle.facet_json_grammar.specs.Text.{text, items_text, members_text, new_line, separator, colon_text, default_options}
+use Rattle.facet_json_grammar.specs.Tree.{Tree, null, unit, bool, char, i64, u64, i128, u128, decimal, bytes, raw, list, pairs, Trees, no_trees, tree, Pairs, no_pairs, pair}
+use Rattle.facet_json_grammar.specs.Tree as trees
+use Rattle.facet_json_grammar.proofs.Cuts.MovedTokens.{moved_node}
+use Rattle.facet_json_grammar.proofs.Scalars.OneToken.{ends_number}
+use Rattle.facet_json_grammar.proofs.Values.OneValue.{IsLeft}
+use Rattle.facet_json_grammar.proofs.Values.RawValues.{document-moved}
 use Rattle.facet_json_core.specs.Meaning.Laws.{SameReading, ReadsAs, ReadsBack}
 use Rattle.facet_json_core.proofs.Meaning.Nodes.MovedNodes.{moved-same}
 

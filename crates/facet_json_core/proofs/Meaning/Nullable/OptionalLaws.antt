@@ -7,16 +7,16 @@ use Rattle.facet_format.specs.NumberValue as numbers
 use Rattle.facet_json_token.specs.Decoded.{decoded}
 use Rattle.facet_json_token.specs.Token.{Kind, Token}
 use Rattle.facet_json_token.specs.Token as token
-use Rattle.facet_json_document.specs.Document.{IsWholeDocument}
-use Rattle.facet_json_document.specs.Node.{Node, scalar}
-use Rattle.facet_json_document.specs.Node as node
-use Rattle.facet_json_document.specs.Meaning.{meaning_of, tree_of_number, tree_of, trees_of, pairs_of}
-use Rattle.facet_json_document.specs.Text.{as_array, text, default_options}
-use Rattle.facet_json_document.specs.Tree.{Tree, Trees, Pairs}
-use Rattle.facet_json_document.specs.Tree as trees
-use Rattle.facet_json_document.specs.AsRead.{RawParts, WellFormed, IsDocumentText, null_is_null}
-use Rattle.facet_json_document.specs.AsRead as written
-use Rattle.facet_json_document.proofs.Values.TreeTexts.{written_is_read}
+use Rattle.facet_json_grammar.specs.Document.{IsWholeDocument}
+use Rattle.facet_json_grammar.specs.Node.{Node, scalar}
+use Rattle.facet_json_grammar.specs.Node as node
+use Rattle.facet_json_grammar.specs.Meaning.{meaning_of, tree_of_number, tree_of, trees_of, pairs_of}
+use Rattle.facet_json_grammar.specs.Text.{as_array, text, default_options}
+use Rattle.facet_json_grammar.specs.Tree.{Tree, Trees, Pairs}
+use Rattle.facet_json_grammar.specs.Tree as trees
+use Rattle.facet_json_grammar.specs.AsRead.{RawParts, WellFormed, IsDocumentText, null_is_null}
+use Rattle.facet_json_grammar.specs.AsRead as written
+use Rattle.facet_json_grammar.proofs.Values.TreeTexts.{written_is_read}
 use Rattle.facet_json_core.specs.Meaning.Nodes.{SameToken, same_mark, same_string, same_number, SameText, same_scalars, same_arrays, same_objects}
 use Rattle.facet_json_core.specs.Meaning.Laws.{SameReading, ReadsAs, ReadsBack}
 use Rattle.facet_json_core.specs.Meaning.Optional.{is_null_token, is_null_node, optional, optional_tree, IsNullText, OptionalReadable}

@@ -5,12 +5,12 @@ use Rattle.std.proofs.Common.{◌≡◌, inl, inr, false, Option, None, Some, sy
 use Rattle.facet_format.specs.Complaint.{Refusal}
 use Rattle.facet_format.specs.Cursor.{Cursor, Spot, at_spot, unpeeked}
 use Rattle.facet_format.specs.Part.{Source}
-use Rattle.facet_json_document.specs.Node.{Node}
-use Rattle.facet_json_document.specs.Now.{Now}
+use Rattle.facet_json_grammar.specs.Node.{Node}
+use Rattle.facet_json_grammar.specs.Now.{Now}
 use Rattle.facet_json_core.specs.Meaning.Nodes.{StandsBefore, StandsAfter}
 use Rattle.facet_json_core.specs.Meaning.Optional.{is_null_node, is_null_event, optional}
 use Rattle.facet_json_core.specs.Meaning.Inner.Taking.{Takes, StaysThere, StaysBefore}
-use Rattle.facet_json_document.specs.Walk.{walk}
+use Rattle.facet_json_grammar.specs.Walk.{walk}
 use Rattle.facet_json_core.specs.Meaning.Reading.{IsRead, IsUnread}
 use Rattle.facet_json_core.proofs.Meaning.Walks.FirstEvents.{first_event, first-stands, null-first, null-one}
 

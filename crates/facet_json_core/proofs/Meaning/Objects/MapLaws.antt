@@ -1,8 +1,8 @@
 -- Maps: nodes of the same text are read alike.
 use Rattle.std.proofs.Common.{◌≡◌, ℕ, List, [], Option, None, Some, refl, ap, ◌∙◌}
 use Rattle.std.specs.Option.{option_and_then}
-use Rattle.facet_json_document.specs.Meaning.{text_in_tree, meaning}
-use Rattle.facet_json_document.specs.Node.{Node, Members}
+use Rattle.facet_json_grammar.specs.Meaning.{text_in_tree, meaning}
+use Rattle.facet_json_grammar.specs.Node.{Node, Members}
 use Rattle.facet_json_core.specs.Meaning.Laws.{SameReading}
 use Rattle.facet_json_core.specs.Meaning.Maps.{Entries, with_entry, with_members, map_of}
 use Rattle.facet_json_core.specs.Meaning.Nodes.{same_scalars, same_arrays, same_objects, SameMembers, same_no_members, same_member}

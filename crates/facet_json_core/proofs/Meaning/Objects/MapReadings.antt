@@ -6,10 +6,10 @@ use Rattle.facet_format.specs.Complaint.{Refusal}
 use Rattle.facet_format.specs.Cursor.{Cursor}
 use Rattle.facet_format.specs.Part.{Source}
 use Rattle.facet_json_token.specs.Token.{Token}
-use Rattle.facet_json_document.specs.Node.{Node, scalar, Members, no_members, member}
-use Rattle.facet_json_document.specs.Node as node
-use Rattle.facet_json_document.specs.Meaning.{text_in_tree, meaning}
-use Rattle.facet_json_document.specs.Now.{Now}
+use Rattle.facet_json_grammar.specs.Node.{Node, scalar, Members, no_members, member}
+use Rattle.facet_json_grammar.specs.Node as node
+use Rattle.facet_json_grammar.specs.Meaning.{text_in_tree, meaning}
+use Rattle.facet_json_grammar.specs.Now.{Now}
 use Rattle.facet_json_core.specs.Meaning.Nodes.{StandsBefore}
 use Rattle.facet_json_core.specs.Meaning.Reading.{IsRead, IsUnread}
 use Rattle.facet_json_core.specs.Meaning.Objects.{members_of, BeginsObject, IsNoObject, PassesKey, LacksKey}

@@ -9,10 +9,10 @@ use Rattle.std.specs.declared.cmp.Ordering.TheVariants.{Less}
 use Rattle.std.proofs.Common.{◌≡◌, ℕ, true, List, [], ◌∷◌, Option, Some, refl, ap, ◌∙◌}
 use Rattle.std.proofs.lemmas.Cmp.{nat_list_cmp_total}
 use Rattle.std.proofs.lemmas.List.Elements.{All-head, All-tail}
-use Rattle.facet_json_document.specs.Node.{Node, Members, no_members}
-use Rattle.facet_json_document.specs.Text.{text, members_text, default_options}
-use Rattle.facet_json_document.specs.Tree.{Tree, no_pairs}
-use Rattle.facet_json_document.specs.AsRead.{RawParts, RawMembers, IsDocumentText}
+use Rattle.facet_json_grammar.specs.Node.{Node, Members, no_members}
+use Rattle.facet_json_grammar.specs.Text.{text, members_text, default_options}
+use Rattle.facet_json_grammar.specs.Tree.{Tree, no_pairs}
+use Rattle.facet_json_grammar.specs.AsRead.{RawParts, RawMembers, IsDocumentText}
 use Rattle.facet_json_core.specs.Meaning.Laws.{SameReading, ReadsBack}
 use Rattle.facet_json_core.specs.Meaning.Maps.{Entries, by_bytes, with_entry, with_members, map_of, pairs_of_entries, tree_of_entries, IsMap, IsReadableMap}
 use Rattle.facet_json_core.proofs.Meaning.Objects.MapReadings.{first-is}

@@ -8,13 +8,13 @@ use Rattle.facet_format.specs.Cursor.{Cursor, Spot, at_spot, unpeeked}
 use Rattle.facet_format.specs.Part.{Source}
 use Rattle.facet_format.specs.Kept.{found}
 use Rattle.facet_json_token.specs.Token.{Token}
-use Rattle.facet_json_document.specs.Node.{Node, scalar, Members, no_members, member}
-use Rattle.facet_json_document.specs.Node as node
-use Rattle.facet_json_document.specs.Tree.{Pairs}
-use Rattle.facet_json_document.specs.Meaning.{tree_of, pairs_of, text_in_tree, meaning}
-use Rattle.facet_json_document.specs.Walk.{walk, walk_members, event_at, key_event, scalar_event, name_of}
-use Rattle.facet_json_document.proofs.TreesOfParts.{object_meant, member_meant}
-use Rattle.facet_json_document.specs.Now.{Now, StandsAt}
+use Rattle.facet_json_grammar.specs.Node.{Node, scalar, Members, no_members, member}
+use Rattle.facet_json_grammar.specs.Node as node
+use Rattle.facet_json_grammar.specs.Tree.{Pairs}
+use Rattle.facet_json_grammar.specs.Meaning.{tree_of, pairs_of, text_in_tree, meaning}
+use Rattle.facet_json_grammar.specs.Walk.{walk, walk_members, event_at, key_event, scalar_event, name_of}
+use Rattle.facet_json_grammar.proofs.TreesOfParts.{object_meant, member_meant}
+use Rattle.facet_json_grammar.specs.Now.{Now, StandsAt}
 use Rattle.facet_json_core.proofs.WalkTells.{key-named}
 use Rattle.facet_json_core.specs.Meaning.Nodes.{StandsBefore, StandsAfter}
 use Rattle.facet_json_core.specs.Meaning.Passing.{WalksPast}

@@ -10,15 +10,15 @@ use Rattle.facet_json_token.specs.Gap.{plain}
 use Rattle.facet_json_token.specs.Token.{Token, object_start, object_end, comma}
 use Rattle.facet_json_token.specs.Tokens.{next}
 use Rattle.facet_json_token.specs.TokenList.{tokens_from}
-use Rattle.facet_json_document.specs.Meaning.{tree_of, pairs_of, put_pair, text_in_tree, meaning}
-use Rattle.facet_json_document.specs.Node.{Node, object, Members, no_members, member, Spells, braces, SpellsMembers, ended_members, member_and_comma, last_member}
-use Rattle.facet_json_document.specs.Quoted.{quoted}
-use Rattle.facet_json_document.specs.Text.{text, members_text, default_options}
-use Rattle.facet_json_document.specs.Tree.{Tree, pairs, Pairs, no_pairs, pair}
-use Rattle.facet_json_document.proofs.Values.Containers.{key_stands}
-use Rattle.facet_json_document.proofs.Scalars.OneToken.{IsOneString}
-use Rattle.facet_json_document.proofs.Values.OneValue.{IsLeft, IsLeft-past, IsLeft-as, mark_at, tokens_from-structural}
-use Rattle.facet_json_document.proofs.Scalars.QuotedTexts.{quoted-one_string}
+use Rattle.facet_json_grammar.specs.Meaning.{tree_of, pairs_of, put_pair, text_in_tree, meaning}
+use Rattle.facet_json_grammar.specs.Node.{Node, object, Members, no_members, member, Spells, braces, SpellsMembers, ended_members, member_and_comma, last_member}
+use Rattle.facet_json_grammar.specs.Quoted.{quoted}
+use Rattle.facet_json_grammar.specs.Text.{text, members_text, default_options}
+use Rattle.facet_json_grammar.specs.Tree.{Tree, pairs, Pairs, no_pairs, pair}
+use Rattle.facet_json_grammar.proofs.Values.Containers.{key_stands}
+use Rattle.facet_json_grammar.proofs.Scalars.OneToken.{IsOneString}
+use Rattle.facet_json_grammar.proofs.Values.OneValue.{IsLeft, IsLeft-past, IsLeft-as, mark_at, tokens_from-structural}
+use Rattle.facet_json_grammar.proofs.Scalars.QuotedTexts.{quoted-one_string}
 use Rattle.facet_json_core.proofs.Meaning.Nodes.TextsWithin.{ReadsAnywhere}
 
 -- From an offset of the buffer on, up to another, stand the members of an object and its closing brace, and this is known of them.

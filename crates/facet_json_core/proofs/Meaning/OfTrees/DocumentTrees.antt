@@ -12,19 +12,19 @@ use Rattle.facet_format.specs.NumberParts.{parts, is_number}
 use Rattle.facet_format.specs.NumberValue as numbers
 use Rattle.facet_json_token.specs.Token.{Kind}
 use Rattle.facet_json_token.specs.Token as token
-use Rattle.facet_json_document.specs.Document.{IsWholeDocument}
-use Rattle.facet_json_document.specs.Meaning.{meaning_of, tree_of_number, text_in_tree, put_item, put_pair, tree_of, trees_of, pairs_of}
-use Rattle.facet_json_document.specs.Node.{Node, scalar, array, object, Nodes, no_nodes, item, Members, no_members, member}
-use Rattle.facet_json_document.specs.Text.{BytesFormat, text}
-use Rattle.facet_json_document.specs.Tree.{Tree, null, bool, i64, u64, list, pairs, Trees, no_trees, tree, Pairs, no_pairs, pair}
-use Rattle.facet_json_document.specs.Tree as trees
-use Rattle.facet_json_document.proofs.TreesOfParts.{item_meant, member_meant}
-use Rattle.facet_json_document.specs.AsRead.{WellFormed, ItemsWellFormed, MembersWellFormed, RawParts, RawItems, RawMembers, IsDocumentText, ReadsAs, null_is_null, bool_is_itself, i64_is_whole, u64_is_whole, decimal_is_itself, text_is_itself, list_is_list, pairs_are_pairs, ItemsReadAs, no_items, one_item, MembersReadAs, one_member}
-use Rattle.facet_json_document.specs.AsRead as written
-use Rattle.facet_json_document.specs.RfcText.{InUtf8}
-use Rattle.facet_json_document.proofs.Rfc.Numbers.{number-decimal, number-signed}
-use Rattle.facet_json_document.proofs.Values.Readings.{one_reading}
-use Rattle.facet_json_document.proofs.Values.TreeTexts.{written_is_read}
+use Rattle.facet_json_grammar.specs.Document.{IsWholeDocument}
+use Rattle.facet_json_grammar.specs.Meaning.{meaning_of, tree_of_number, text_in_tree, put_item, put_pair, tree_of, trees_of, pairs_of}
+use Rattle.facet_json_grammar.specs.Node.{Node, scalar, array, object, Nodes, no_nodes, item, Members, no_members, member}
+use Rattle.facet_json_grammar.specs.Text.{BytesFormat, text}
+use Rattle.facet_json_grammar.specs.Tree.{Tree, null, bool, i64, u64, list, pairs, Trees, no_trees, tree, Pairs, no_pairs, pair}
+use Rattle.facet_json_grammar.specs.Tree as trees
+use Rattle.facet_json_grammar.proofs.TreesOfParts.{item_meant, member_meant}
+use Rattle.facet_json_grammar.specs.AsRead.{WellFormed, ItemsWellFormed, MembersWellFormed, RawParts, RawItems, RawMembers, IsDocumentText, ReadsAs, null_is_null, bool_is_itself, i64_is_whole, u64_is_whole, decimal_is_itself, text_is_itself, list_is_list, pairs_are_pairs, ItemsReadAs, no_items, one_item, MembersReadAs, one_member}
+use Rattle.facet_json_grammar.specs.AsRead as written
+use Rattle.facet_json_grammar.specs.RfcText.{InUtf8}
+use Rattle.facet_json_grammar.proofs.Rfc.Numbers.{number-decimal, number-signed}
+use Rattle.facet_json_grammar.proofs.Values.Readings.{one_reading}
+use Rattle.facet_json_grammar.proofs.Values.TreeTexts.{written_is_read}
 use Rattle.facet_json_core.specs.Meaning.Trees.{without_plus, items_without_plus, members_without_plus, IsReadAgain, DocumentIsReadable, DocumentComesBack}
 use Rattle.facet_json_core.proofs.Meaning.OfTrees.TextsDecoded.{decoded-utf8}
 

@@ -2,14 +2,14 @@
 use Rattle.std.specs.Prelude.{ℕ, List}
 use Rattle.std.specs.Option.{option_map}
 use Rattle.std.proofs.Common.{◌≡◌, ℕ, List, Some, refl, ap, ap₂, ◌∙◌}
-use Rattle.facet_json_document.specs.Meaning.{tree_of, trees_of, pairs_of, text_in_tree, put_item, put_pair, meaning}
-use Rattle.facet_json_document.specs.Node.{Nodes, Members}
-use Rattle.facet_json_document.specs.Text.{as_array, default_options}
-use Rattle.facet_json_document.specs.Tree.{Tree, list, pairs, Trees, Pairs}
-use Rattle.facet_json_document.specs.AsRead.{WellFormed, RawParts, RawItems, RawMembers, IsDocumentText, null_is_null, unit_is_null, bool_is_itself, char_is_text, i64_is_whole, u64_is_whole, i128_is_whole, u128_is_whole, decimal_is_itself, text_is_itself, bytes_are_read, raw_is_read, list_is_list, pairs_are_pairs, ItemsReadAs, no_items, one_item, MembersReadAs, no_members, one_member}
-use Rattle.facet_json_document.specs.AsRead as written
-use Rattle.facet_json_document.proofs.Values.Readings.{one_reading}
-use Rattle.facet_json_document.proofs.Values.TreeTexts.{written_is_read}
+use Rattle.facet_json_grammar.specs.Meaning.{tree_of, trees_of, pairs_of, text_in_tree, put_item, put_pair, meaning}
+use Rattle.facet_json_grammar.specs.Node.{Nodes, Members}
+use Rattle.facet_json_grammar.specs.Text.{as_array, default_options}
+use Rattle.facet_json_grammar.specs.Tree.{Tree, list, pairs, Trees, Pairs}
+use Rattle.facet_json_grammar.specs.AsRead.{WellFormed, RawParts, RawItems, RawMembers, IsDocumentText, null_is_null, unit_is_null, bool_is_itself, char_is_text, i64_is_whole, u64_is_whole, i128_is_whole, u128_is_whole, decimal_is_itself, text_is_itself, bytes_are_read, raw_is_read, list_is_list, pairs_are_pairs, ItemsReadAs, no_items, one_item, MembersReadAs, no_members, one_member}
+use Rattle.facet_json_grammar.specs.AsRead as written
+use Rattle.facet_json_grammar.proofs.Values.Readings.{one_reading}
+use Rattle.facet_json_grammar.proofs.Values.TreeTexts.{written_is_read}
 use Rattle.facet_json_core.specs.Meaning.Laws.{SameReading, ReadsBack}
 use Rattle.facet_json_core.specs.Meaning.Nodes.{same_scalars, same_arrays, same_objects, SameItems, same_none, same_first, SameMembers, same_no_members, same_member}
 use Rattle.facet_json_core.specs.Meaning.Trees.{IsReadableTree}

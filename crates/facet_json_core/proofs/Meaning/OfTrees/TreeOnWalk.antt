@@ -6,13 +6,13 @@ use Rattle.facet_format.specs.Complaint.{Refusal}
 use Rattle.facet_format.specs.Cursor.{Cursor, at_spot, unpeeked}
 use Rattle.facet_format.specs.Part.{Source}
 use Rattle.facet_format.specs.Event.{Event}
-use Rattle.facet_json_document.specs.Future.{Future, finished, events_before}
-use Rattle.facet_json_document.specs.Meaning.{tree_of}
-use Rattle.facet_json_document.specs.Node.{Node}
-use Rattle.facet_json_document.specs.Tree.{Tree}
-use Rattle.facet_json_document.specs.Walk.{walk}
-use Rattle.facet_json_document.proofs.WalkComes.{events_before-append, events_before-same}
-use Rattle.facet_json_document.specs.Now.{Now, future_of}
+use Rattle.facet_json_grammar.specs.Future.{Future, finished, events_before}
+use Rattle.facet_json_grammar.specs.Meaning.{tree_of}
+use Rattle.facet_json_grammar.specs.Node.{Node}
+use Rattle.facet_json_grammar.specs.Tree.{Tree}
+use Rattle.facet_json_grammar.specs.Walk.{walk}
+use Rattle.facet_json_grammar.proofs.WalkComes.{events_before-append, events_before-same}
+use Rattle.facet_json_grammar.specs.Now.{Now, future_of}
 use Rattle.facet_json_core.specs.Told.{Tells}
 use Rattle.facet_json_core.specs.Reading.{IsValueRead, IsValueUnread}
 use Rattle.facet_json_core.proofs.DocumentFromRoot.{read-document}

@@ -5,13 +5,13 @@ use Rattle.facet_format.specs.Span.{stop}
 use Rattle.facet_json_token.specs.Token.{Token}
 use Rattle.facet_json_token.specs.Tokens.{Tokens, ended, refused, next}
 use Rattle.facet_json_token.specs.TokenList.{tokens_from}
-use Rattle.facet_json_document.specs.Future.{Future, gives, within, is_meaningless, turn, reads_by, reads_colon_by}
-use Rattle.facet_json_document.specs.Language.{Language, gaps, Rules, rules}
-use Rattle.facet_json_document.specs.Place.{Place, after_key, Turn, stops, passes, says, says_scalar, names, place_turn, goes_on, leads_on, led}
-use Rattle.facet_json_document.specs.StrictTokens.{tokens_in}
-use Rattle.facet_json_document.specs.Walk.{event_at, scalar_event, key_event}
-use Rattle.facet_json_document.proofs.TokensIn.{plain-first, tokens_in-others}
-use Rattle.facet_json_document.proofs.WalkComes.{follows, reads-turn, colon-ended, colon-refused, colon-missing, colon-stands}
+use Rattle.facet_json_grammar.specs.Future.{Future, gives, within, is_meaningless, turn, reads_by, reads_colon_by}
+use Rattle.facet_json_grammar.specs.Language.{Language, gaps, Rules, rules}
+use Rattle.facet_json_grammar.specs.Place.{Place, after_key, Turn, stops, passes, says, says_scalar, names, place_turn, goes_on, leads_on, led}
+use Rattle.facet_json_grammar.specs.StrictTokens.{tokens_in}
+use Rattle.facet_json_grammar.specs.Walk.{event_at, scalar_event, key_event}
+use Rattle.facet_json_grammar.proofs.TokensIn.{plain-first, tokens_in-others}
+use Rattle.facet_json_grammar.proofs.WalkComes.{follows, reads-turn, colon-ended, colon-refused, colon-missing, colon-stands}
 
 -- By these rules the tokens lead from a place over separators to another place, and these are left there.
 pub data AfterSeparators (by : Rules) : Place → Tokens → Place → Tokens → Type 0 where

@@ -10,22 +10,22 @@ use Rattle.facet_json_token.specs.Tokens.{Tokens}
 use Rattle.facet_json_token.specs.TokenList.{tokens_from}
 use Rattle.facet_json_token.specs.Tokens as tokens
 use Rattle.facet_json_token.proofs.TokensSteps.{tokens_from-others}
-use Rattle.facet_json_document.specs.Future.{gives, Stage, within, over, stack_after, stage_after, reads_by}
-use Rattle.facet_json_document.specs.StrictTokens.{tokens_in}
-use Rattle.facet_json_document.specs.Reader.{Reader, past}
-use Rattle.facet_json_document.specs.Language.{Rules, rules}
-use Rattle.facet_json_document.specs.Place.{Place, says, says_scalar, names, place_turn, led}
-use Rattle.facet_json_document.specs.Place as turn
-use Rattle.facet_json_document.specs.Run.{opening, closing, is_separator, one_token, brackets, RunsInside, nothing, separator, a_run}
-use Rattle.facet_json_document.specs.Unread.{begins_value, past_value}
-use Rattle.facet_json_document.proofs.Parts.BracketsOnWalk.{a_colon}
-use Rattle.facet_json_document.proofs.PastEvents.{nothing-behind}
-use Rattle.facet_json_document.specs.Move.{Moves}
-use Rattle.facet_json_document.specs.Now.{Now, future_of}
-use Rattle.facet_json_document.specs.SkipLaws.{GoesOnWith, with_value, after_separator, BeforeValue}
-use Rattle.facet_json_document.proofs.MoveLaws.{with_cursor, StepOf, by_step}
-use Rattle.facet_json_document.proofs.MovesNext.{event-comes}
-use Rattle.facet_json_document.proofs.OneRun.BracketTurns.{TurnsTo, turns}
+use Rattle.facet_json_grammar.specs.Future.{gives, Stage, within, over, stack_after, stage_after, reads_by}
+use Rattle.facet_json_grammar.specs.StrictTokens.{tokens_in}
+use Rattle.facet_json_grammar.specs.Reader.{Reader, past}
+use Rattle.facet_json_grammar.specs.Language.{Rules, rules}
+use Rattle.facet_json_grammar.specs.Place.{Place, says, says_scalar, names, place_turn, led}
+use Rattle.facet_json_grammar.specs.Place as turn
+use Rattle.facet_json_grammar.specs.Run.{opening, closing, is_separator, one_token, brackets, RunsInside, nothing, separator, a_run}
+use Rattle.facet_json_grammar.specs.Unread.{begins_value, past_value}
+use Rattle.facet_json_grammar.proofs.Parts.BracketsOnWalk.{a_colon}
+use Rattle.facet_json_grammar.proofs.PastEvents.{nothing-behind}
+use Rattle.facet_json_grammar.specs.Move.{Moves}
+use Rattle.facet_json_grammar.specs.Now.{Now, future_of}
+use Rattle.facet_json_grammar.specs.SkipLaws.{GoesOnWith, with_value, after_separator, BeforeValue}
+use Rattle.facet_json_grammar.proofs.MoveLaws.{with_cursor, StepOf, by_step}
+use Rattle.facet_json_grammar.proofs.MovesNext.{event-comes}
+use Rattle.facet_json_grammar.proofs.OneRun.BracketTurns.{TurnsTo, turns}
 use Rattle.facet_json_core.specs.Meaning.OneValue.{PassesValue, tokens_left, IsInside, PassesByKind}
 use Rattle.facet_json_core.proofs.Meaning.OneValue.EventTokens.{AfterSeparators, none, one_more, GivesHere, an_event as gives_event, a_scalar, a_key, GivesEvent, tokens-give}
 

@@ -2,7 +2,7 @@
 use Rattle.std.proofs.Common.{◌≡◌, true, List, ℕ, Option, Some, None}
 use Rattle.std.specs.Option.{option_map}
 use Rattle.facet_format.specs.Event.{array, EventKind, struct_end, sequence_end, field_key, scalar}
-use Rattle.facet_json_document.specs.Now.{Now}
+use Rattle.facet_json_grammar.specs.Now.{Now}
 use Rattle.facet_json_core.specs.Meaning.Borrowed.{lent}
 use Rattle.facet_json_core.specs.Meaning.ListSteps.{ends_list}
 use Rattle.facet_json_core.specs.Meaning.Objects.{key_or_end}

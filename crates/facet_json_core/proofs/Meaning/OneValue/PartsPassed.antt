@@ -7,17 +7,17 @@ use Rattle.facet_format.specs.Part.{Part, value, broken, key, closing, nothing, 
 use Rattle.facet_json_token.specs.Token.{Kind, Token}
 use Rattle.facet_json_token.specs.Token as token
 use Rattle.facet_json_token.specs.Tokens.{Tokens, next}
-use Rattle.facet_json_document.specs.Future.{Stage, within, over}
-use Rattle.facet_json_document.specs.Reader.{Reader}
-use Rattle.facet_json_document.specs.Language.{Rules, rules}
-use Rattle.facet_json_document.specs.Place.{Place, after_colon, passes, names, place_turn, led}
-use Rattle.facet_json_document.specs.Run.{Run}
-use Rattle.facet_json_document.specs.Unread.{closes_container, past_value, PartFrom, separator, a_value, a_broken_value, a_key, a_closing, none_of_them, PartIn, PartAt}
-use Rattle.facet_json_document.proofs.Parts.PartsWithin.{captured-place}
-use Rattle.facet_json_document.specs.Move.{Moves}
-use Rattle.facet_json_document.specs.Now.{Now}
-use Rattle.facet_json_document.specs.SkipLaws.{GoesOnWith, with_value, after_separator}
-use Rattle.facet_json_document.proofs.MoveLaws.{with_cursor, StepOf, by_step}
+use Rattle.facet_json_grammar.specs.Future.{Stage, within, over}
+use Rattle.facet_json_grammar.specs.Reader.{Reader}
+use Rattle.facet_json_grammar.specs.Language.{Rules, rules}
+use Rattle.facet_json_grammar.specs.Place.{Place, after_colon, passes, names, place_turn, led}
+use Rattle.facet_json_grammar.specs.Run.{Run}
+use Rattle.facet_json_grammar.specs.Unread.{closes_container, past_value, PartFrom, separator, a_value, a_broken_value, a_key, a_closing, none_of_them, PartIn, PartAt}
+use Rattle.facet_json_grammar.proofs.Parts.PartsWithin.{captured-place}
+use Rattle.facet_json_grammar.specs.Move.{Moves}
+use Rattle.facet_json_grammar.specs.Now.{Now}
+use Rattle.facet_json_grammar.specs.SkipLaws.{GoesOnWith, with_value, after_separator}
+use Rattle.facet_json_grammar.proofs.MoveLaws.{with_cursor, StepOf, by_step}
 use Rattle.facet_json_core.specs.Meaning.OneValue.{PassesValue, tokens_left, IsAfterKey}
 
 -- ---- a value that is passed unread

@@ -6,16 +6,16 @@ use Rattle.facet_format.specs.Cursor.{Answer, Cursor, peek, event, repeats, peek
 use Rattle.facet_format.specs.Event.{ContainerKind, object, Event, EventKind, Passed}
 use Rattle.facet_format.specs.Span.{stop}
 use Rattle.facet_json_token.specs.Tokens.{next}
-use Rattle.facet_json_document.specs.Future.{Future, gives}
-use Rattle.facet_json_document.specs.Reader.{Reader}
-use Rattle.facet_json_document.specs.Language.{rules, gaps}
-use Rattle.facet_json_document.specs.Run.{a_run, nothing}
-use Rattle.facet_json_document.proofs.Parts.TokensAfterRuns.{tokens_from-run}
-use Rattle.facet_json_document.specs.Move.{Moves}
-use Rattle.facet_json_document.specs.Next.{PassesNext}
-use Rattle.facet_json_document.specs.Now.{Now, SameInput}
-use Rattle.facet_json_document.proofs.MoveLaws.{with_cursor, StepOf, by_step}
-use Rattle.facet_json_document.proofs.MovesNext.{event-comes}
+use Rattle.facet_json_grammar.specs.Future.{Future, gives}
+use Rattle.facet_json_grammar.specs.Reader.{Reader}
+use Rattle.facet_json_grammar.specs.Language.{rules, gaps}
+use Rattle.facet_json_grammar.specs.Run.{a_run, nothing}
+use Rattle.facet_json_grammar.proofs.Parts.TokensAfterRuns.{tokens_from-run}
+use Rattle.facet_json_grammar.specs.Move.{Moves}
+use Rattle.facet_json_grammar.specs.Next.{PassesNext}
+use Rattle.facet_json_grammar.specs.Now.{Now, SameInput}
+use Rattle.facet_json_grammar.proofs.MoveLaws.{with_cursor, StepOf, by_step}
+use Rattle.facet_json_grammar.proofs.MovesNext.{event-comes}
 use Rattle.facet_json_core.specs.Meaning.OneValue.{PassesValue, tokens_left, IsInside, PassesMemberOrEnd, ComesNext, LooksAhead}
 use Rattle.facet_json_core.proofs.Meaning.OneValue.EventsPassed.{runs-then, value-runs, value-stands}
 

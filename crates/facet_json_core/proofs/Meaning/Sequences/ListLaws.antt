@@ -11,12 +11,12 @@ use Rattle.facet_json_token.specs.Gap.{plain}
 use Rattle.facet_json_token.specs.Token.{Token, array_start, array_end, comma}
 use Rattle.facet_json_token.specs.Tokens.{next}
 use Rattle.facet_json_token.specs.TokenList.{tokens_from}
-use Rattle.facet_json_document.specs.Meaning.{tree_of, trees_of, put_item}
-use Rattle.facet_json_document.specs.Node.{Node, array, Nodes, no_nodes, item, Spells, brackets, SpellsItems, closed, item_and_comma, last_item}
-use Rattle.facet_json_document.specs.Text.{text, items_text, default_options}
-use Rattle.facet_json_document.specs.Tree.{Tree, list, Trees, no_trees, tree}
-use Rattle.facet_json_document.specs.AsRead.{RawParts, RawItems, IsDocumentText}
-use Rattle.facet_json_document.proofs.Values.OneValue.{IsLeft, IsLeft-past, IsLeft-as, mark_at, tokens_from-structural}
+use Rattle.facet_json_grammar.specs.Meaning.{tree_of, trees_of, put_item}
+use Rattle.facet_json_grammar.specs.Node.{Node, array, Nodes, no_nodes, item, Spells, brackets, SpellsItems, closed, item_and_comma, last_item}
+use Rattle.facet_json_grammar.specs.Text.{text, items_text, default_options}
+use Rattle.facet_json_grammar.specs.Tree.{Tree, list, Trees, no_trees, tree}
+use Rattle.facet_json_grammar.specs.AsRead.{RawParts, RawItems, IsDocumentText}
+use Rattle.facet_json_grammar.proofs.Values.OneValue.{IsLeft, IsLeft-past, IsLeft-as, mark_at, tokens_from-structural}
 use Rattle.facet_json_core.specs.Meaning.Laws.{SameReading, ReadsBack}
 use Rattle.facet_json_core.specs.Meaning.Lists.{put_value, items_of, list_of, trees_by, list_by}
 use Rattle.facet_json_core.specs.Meaning.Nodes.{same_scalars, same_arrays, same_objects, SameItems, same_none, same_first}

@@ -9,13 +9,13 @@ use Rattle.facet_format.specs.Cursor.{Cursor, Spot, at_spot, unpeeked}
 use Rattle.facet_format.specs.Part.{Source}
 use Rattle.facet_format.specs.Kept.{found}
 use Rattle.facet_json_token.specs.Token.{Token}
-use Rattle.facet_json_document.specs.Node.{Node, scalar, Nodes, no_nodes, item}
-use Rattle.facet_json_document.specs.Node as node
-use Rattle.facet_json_document.specs.Tree.{Trees}
-use Rattle.facet_json_document.specs.Meaning.{tree_of, trees_of}
-use Rattle.facet_json_document.specs.Walk.{walk, walk_items, event_at, scalar_event}
-use Rattle.facet_json_document.proofs.TreesOfParts.{list_meant, item_meant}
-use Rattle.facet_json_document.specs.Now.{Now, StandsAt}
+use Rattle.facet_json_grammar.specs.Node.{Node, scalar, Nodes, no_nodes, item}
+use Rattle.facet_json_grammar.specs.Node as node
+use Rattle.facet_json_grammar.specs.Tree.{Trees}
+use Rattle.facet_json_grammar.specs.Meaning.{tree_of, trees_of}
+use Rattle.facet_json_grammar.specs.Walk.{walk, walk_items, event_at, scalar_event}
+use Rattle.facet_json_grammar.proofs.TreesOfParts.{list_meant, item_meant}
+use Rattle.facet_json_grammar.specs.Now.{Now, StandsAt}
 use Rattle.facet_json_core.specs.Reading.{LacksMemory}
 use Rattle.facet_json_core.specs.Meaning.Nodes.{StandsBefore, StandsAfter}
 use Rattle.facet_json_core.specs.Meaning.Passing.{WalksPast, LacksAlone}

@@ -12,13 +12,13 @@ use Rattle.facet_format.specs.NumberValue as numbers
 use Rattle.facet_json_token.specs.Decoded.{decoded}
 use Rattle.facet_json_token.specs.Token.{Kind, Token}
 use Rattle.facet_json_token.specs.Token as token
-use Rattle.facet_json_document.specs.Node.{Node, scalar}
-use Rattle.facet_json_document.specs.Node as node
-use Rattle.facet_json_document.specs.Tree.{Tree}
-use Rattle.facet_json_document.specs.Tree as trees
-use Rattle.facet_json_document.specs.Meaning.{tree_of, meaning_of, tree_of_number}
-use Rattle.facet_json_document.specs.Walk.{walk, event_at, scalar_event, scalar_of}
-use Rattle.facet_json_document.specs.Now.{Now}
+use Rattle.facet_json_grammar.specs.Node.{Node, scalar}
+use Rattle.facet_json_grammar.specs.Node as node
+use Rattle.facet_json_grammar.specs.Tree.{Tree}
+use Rattle.facet_json_grammar.specs.Tree as trees
+use Rattle.facet_json_grammar.specs.Meaning.{tree_of, meaning_of, tree_of_number}
+use Rattle.facet_json_grammar.specs.Walk.{walk, event_at, scalar_event, scalar_of}
+use Rattle.facet_json_grammar.specs.Now.{Now}
 use Rattle.facet_json_core.specs.Meaning.Nodes.{StandsBefore, StandsAfter}
 use Rattle.facet_json_core.specs.Meaning.Passing.{WalksPast}
 use Rattle.facet_json_core.specs.Meaning.Reading.{IsRead, IsUnread}

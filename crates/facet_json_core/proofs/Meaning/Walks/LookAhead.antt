@@ -3,8 +3,8 @@ use Rattle.std.proofs.Common.{◌≡◌, Bool, true, false, List, refl, ap, ◌�
 use Rattle.facet_format.specs.Complaint.{Refusal}
 use Rattle.facet_format.specs.Event.{Event, EventKind, Passed, sequence_end, scalar, null}
 use Rattle.facet_format.specs.Cursor.{at_spot, peeked_at}
-use Rattle.facet_json_document.specs.Future.{finished, events_before}
-use Rattle.facet_json_document.specs.Now.{Now, future_of}
+use Rattle.facet_json_grammar.specs.Future.{finished, events_before}
+use Rattle.facet_json_grammar.specs.Now.{Now, future_of}
 use Rattle.facet_json_parser.specs.Inner.Wanted.{NeverGives}
 use Rattle.facet_json_core.specs.Meaning.Inner.Taking.{Takes, StaysBefore}
 use Rattle.facet_json_core.specs.Meaning.ListSteps.{ends_list}

@@ -6,7 +6,7 @@ use Rattle.facet_format.specs.Event.{Event, Passed}
 use Rattle.facet_format.specs.Cursor.{Cursor, on_walk, event_or_end, an_event, the_end, current_span, no_memory_at, next, Answer, event, Step, repeats, passes, passes_without_memory, passes_the_end, passes_nothing}
 use Rattle.facet_format.specs.Part.{Source}
 use Rattle.facet_format.specs.Steps.{IsStep}
-use Rattle.facet_json_document.specs.Now.{Now, StandsAt, GoesOn}
+use Rattle.facet_json_grammar.specs.Now.{Now, StandsAt, GoesOn}
 use Rattle.facet_json_core.specs.Reading.{LacksMemory}
 use Rattle.facet_json_core.specs.Meaning.Nodes.{KeepsOn}
 use Rattle.facet_json_core.specs.Meaning.Passing.{PassesEvent, WalksPast, LacksAlone}

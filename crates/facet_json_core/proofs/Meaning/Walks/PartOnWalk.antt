@@ -5,12 +5,12 @@ use Rattle.facet_format.specs.Event.{Passed}
 use Rattle.facet_format.specs.Cursor.{Cursor}
 use Rattle.facet_format.specs.Part.{Source, Part, value, part_at}
 use Rattle.facet_format.specs.Span.{stop}
-use Rattle.facet_json_document.specs.Node.{Node}
-use Rattle.facet_json_document.specs.RunLaws.{last_token_of}
-use Rattle.facet_json_document.specs.UnreadLaws.{first_token, is_container}
-use Rattle.facet_json_document.specs.Walk.{walk}
-use Rattle.facet_json_document.proofs.Parts.WalksAreValues.{walk_is_one_value}
-use Rattle.facet_json_document.specs.Now.{Now}
+use Rattle.facet_json_grammar.specs.Node.{Node}
+use Rattle.facet_json_grammar.specs.RunLaws.{last_token_of}
+use Rattle.facet_json_grammar.specs.UnreadLaws.{first_token, is_container}
+use Rattle.facet_json_grammar.specs.Walk.{walk}
+use Rattle.facet_json_grammar.proofs.Parts.WalksAreValues.{walk_is_one_value}
+use Rattle.facet_json_grammar.specs.Now.{Now}
 use Rattle.facet_json_core.specs.Meaning.Nodes.{StandsBefore}
 use Rattle.facet_json_core.proofs.Meaning.Leaves.LeafReadings.{walk-first}
 

@@ -6,7 +6,7 @@ use Rattle.facet_format.specs.Event.{Event, EventKind, Passed}
 use Rattle.facet_format.specs.Cursor.{Cursor, on_walk, event_or_end, an_event, the_end, current_span, no_memory_at, peek, Answer, event, Step, repeats, peeks, peeks_without_memory, peeks_at_the_end, peeks_at_nothing}
 use Rattle.facet_format.specs.Part.{Source}
 use Rattle.facet_format.specs.Steps.{IsStep}
-use Rattle.facet_json_document.specs.Now.{Now, StandsAt}
+use Rattle.facet_json_grammar.specs.Now.{Now, StandsAt}
 use Rattle.facet_json_core.specs.Reading.{LacksMemory}
 use Rattle.facet_json_core.specs.Meaning.Passing.{LacksAlone}
 use Rattle.facet_json_core.specs.Meaning.Peeking.{Shows, Finds}

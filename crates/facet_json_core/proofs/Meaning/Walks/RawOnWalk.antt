@@ -5,11 +5,11 @@ use Rattle.facet_format.specs.Complaint.{Refusal}
 use Rattle.facet_format.specs.Cursor.{Cursor, on_walk, unpeeked, current_span, no_memory_at, capture, Answer, raw, Step, repeats, captures, captures_without_memory, captures_nothing}
 use Rattle.facet_format.specs.Part.{Source, capture_of, captured}
 use Rattle.facet_format.specs.Steps.{IsStep}
-use Rattle.facet_json_document.specs.Node.{Node}
-use Rattle.facet_json_document.specs.RunLaws.{last_token_of}
-use Rattle.facet_json_document.specs.UnreadLaws.{first_token}
-use Rattle.facet_json_document.specs.Now.{Now, StandsAt}
-use Rattle.facet_json_document.specs.SkipLaws.{bytes_between}
+use Rattle.facet_json_grammar.specs.Node.{Node}
+use Rattle.facet_json_grammar.specs.RunLaws.{last_token_of}
+use Rattle.facet_json_grammar.specs.UnreadLaws.{first_token}
+use Rattle.facet_json_grammar.specs.Now.{Now, StandsAt}
+use Rattle.facet_json_grammar.specs.SkipLaws.{bytes_between}
 use Rattle.facet_json_core.specs.Reading.{LacksMemory}
 use Rattle.facet_json_core.specs.Meaning.Nodes.{StandsBefore, StandsAfter}
 use Rattle.facet_json_core.specs.Meaning.Reading.{IsRead, IsUnread}

@@ -1,8 +1,8 @@
 use Rattle.std.proofs.Common.{◌≡◌, ◌≤◌, map, length, take}
 use Rattle.std.specs.List.{All}
 use Rattle.std.specs.Vec.{vec_len, vec_capacity}
-use Rattle.facet_json_document.specs.Move.{MovesAll}
-use Rattle.facet_json_document.specs.Within.{AnswerWithin}
+use Rattle.facet_json_grammar.specs.Move.{MovesAll}
+use Rattle.facet_json_grammar.specs.Within.{AnswerWithin}
 use Rattle.facet_json_core.specs.ScriptViews.{call_of, answer_of}
 use Rattle.facet_json_core.proofs.script.drive.Given as goal
 

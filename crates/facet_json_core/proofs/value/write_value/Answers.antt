@@ -1,5 +1,5 @@
 use Rattle.std.proofs.Common.{refl, sym, ap, ◌∙◌, inl, inr}
-use Rattle.facet_json_document.specs.Now.{future_of}
+use Rattle.facet_json_grammar.specs.Now.{future_of}
 use Rattle.std.proofs.lemmas.Result.{err_from_is_err_and}
 use Rattle.facet_format.specs.Event.{Passed}
 use Rattle.facet_format.specs.Views.{event_of}

@@ -1,7 +1,7 @@
 use Rattle.std.proofs.Common.{◌≡◌, false, None, Some}
 use Rattle.facet_format.specs.Event.{Passed}
-use Rattle.facet_json_document.specs.Future.{Future, gives}
-use Rattle.facet_json_document.specs.Now.{ahead, future_of}
+use Rattle.facet_json_grammar.specs.Future.{Future, gives}
+use Rattle.facet_json_grammar.specs.Now.{ahead, future_of}
 use Rattle.facet_json_serializer.specs.Serializer.{Writing}
 use Rattle.facet_json_core.specs.Refusing.{ComesTo}
 use Rattle.facet_json_core.specs.Told.{begins}

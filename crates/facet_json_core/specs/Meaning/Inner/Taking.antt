@@ -3,7 +3,7 @@ use Rattle.std.specs.Prelude.{◌≡◌, ℕ, Bool, true, false, suc, slice_get,
 use Rattle.facet_format.specs.Event.{EventKind, Passed}
 use Rattle.facet_format.specs.Cursor.{Cursor, Spot, at_spot, unpeeked}
 use Rattle.facet_format.specs.Part.{Source}
-use Rattle.facet_json_document.specs.Now.{Now, StandsAt}
+use Rattle.facet_json_grammar.specs.Now.{Now, StandsAt}
 
 -- The event is such a one, and is passed.
 pub record TakesThere (is : EventKind → Bool) (w : Source) (c : Cursor ℕ) (p : Passed) (new : Now) : Type 0 where

@@ -4,7 +4,7 @@ use Rattle.std.proofs.Common.{◌<◌, length, refl, sym, ap, ◌++◌, ◌∙�
 use Rattle.std.proofs.lemmas.List.{drop_all}
 use Rattle.std.proofs.lemmas.Result.{on_ok_weaker}
 use Rattle.std.specs.List.{flat_map}
-use Rattle.facet_json_document.specs.Quoted.{escaped}
+use Rattle.facet_json_grammar.specs.Quoted.{escaped}
 use Rattle.facet_json_escape.proofs.Escapes.{escaped-to, escaped-at, put_out}
 use Rattle.facet_json_escape.proofs.quote.push_content.Goals as goal
 

@@ -1,7 +1,7 @@
 -- What is appended, and what stands for the rest.
 use Rattle.std.proofs.Common.{◌≡◌, ◌-◌, ◌≤◌, ◌++◌, length, drop}
 use Rattle.std.specs.List.{flat_map}
-use Rattle.facet_json_document.specs.Quoted.{escaped}
+use Rattle.facet_json_grammar.specs.Quoted.{escaped}
 use Rattle.facet_json_escape.proofs.quote.push_content.Given as goal
 
 abbrev pub invariant-loop-at : goal.invariant-loop-at

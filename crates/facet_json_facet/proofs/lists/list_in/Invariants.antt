@@ -1,7 +1,7 @@
 use Rattle.std.proofs.Common.{◌≡◌, ◌<◌, false, cond, map}
 use Rattle.std.specs.List.{All}
 use Rattle.facet_format.specs.Event.{array}
-use Rattle.facet_json_document.specs.Now.{ahead}
+use Rattle.facet_json_grammar.specs.Now.{ahead}
 use Rattle.facet_json_core.specs.Meaning.Nodes.{KeepsOn}
 use Rattle.facet_json_core.specs.Meaning.OneValue.{IsInside}
 use Rattle.facet_json_core.proofs.Meaning.Sequences.ListSteps.{ReadSoFar}

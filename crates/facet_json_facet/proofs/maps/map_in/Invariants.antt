@@ -1,6 +1,6 @@
 use Rattle.std.proofs.Common.{◌≡◌, false, cond}
 use Rattle.std.specs.List.{All}
-use Rattle.facet_json_document.specs.Now.{ahead}
+use Rattle.facet_json_grammar.specs.Now.{ahead}
 use Rattle.facet_json_core.proofs.Meaning.Objects.MapEntries.{IsUnderWay}
 use Rattle.facet_json_facet.proofs.maps.map_in.Given as goal
 

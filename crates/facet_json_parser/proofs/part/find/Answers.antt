@@ -1,13 +1,13 @@
 use Rattle.std.proofs.Common.{◌≡◌, ◌∙◌, refl, arith, ap}
 use Rattle.std.proofs.lemmas.Result.{err_from_is_err_and}
-use Rattle.facet_json_document.specs.Language.{lenient, gaps}
+use Rattle.facet_json_grammar.specs.Language.{lenient, gaps}
 use Rattle.facet_json_token.specs.Views.{kind_of}
-use Rattle.facet_json_document.specs.Place.{stops}
+use Rattle.facet_json_grammar.specs.Place.{stops}
 use Rattle.facet_json_reader.specs.declared.place.Turn.{Turn as RustTurn}
 use Rattle.facet_json_reader.specs.declared.place.Turn.TheVariants as turns
 use Rattle.facet_json_reader.specs.Views.{IsTurn}
 use Rattle.facet_json_reader.specs.PlaceViews.{language_of, place_of, turn_of, turn_by}
-use Rattle.facet_json_document.specs.Unread.{begins_value, closes_container}
+use Rattle.facet_json_grammar.specs.Unread.{begins_value, closes_container}
 use Rattle.facet_json_reader.proofs.PastSeparators.{is-turn}
 use Rattle.facet_json_parser.specs.declared.part.Part.TheVariants as parts
 use Rattle.facet_json_parser.proofs.FirstParts.{opens-value, closes-one, reaches-first, reaches-next, nothing-stands, stands-first}

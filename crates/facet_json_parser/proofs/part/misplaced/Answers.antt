@@ -1,5 +1,5 @@
 use Rattle.facet_format.specs.Views.{span_of}
-use Rattle.facet_json_document.specs.Unread.{misplaced}
+use Rattle.facet_json_grammar.specs.Unread.{misplaced}
 use Rattle.facet_json_parser.proofs.part.misplaced.Goals as goal
 
 pub returns : goal.returns

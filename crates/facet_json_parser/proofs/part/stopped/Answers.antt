@@ -1,4 +1,4 @@
-use Rattle.facet_json_document.specs.Unread.{at_end}
+use Rattle.facet_json_grammar.specs.Unread.{at_end}
 use Rattle.facet_json_reader.specs.PlaceViews.{place_of}
 use Rattle.facet_json_parser.proofs.part.stopped.Goals as goal
 

@@ -1,9 +1,9 @@
 use Rattle.std.proofs.Common.{refl}
 use Rattle.std.proofs.lemmas.Result.{err_from_is_err_and}
 use Rattle.facet_json_token.specs.Views.{mode_of}
-use Rattle.facet_json_document.specs.Language.{lenient}
-use Rattle.facet_json_document.specs.Place.{after_key}
-use Rattle.facet_json_document.specs.Unread.{colon_missing}
+use Rattle.facet_json_grammar.specs.Language.{lenient}
+use Rattle.facet_json_grammar.specs.Place.{after_key}
+use Rattle.facet_json_grammar.specs.Unread.{colon_missing}
 use Rattle.facet_json_reader.proofs.ColonAfterKey.{colon-stands}
 use Rattle.facet_json_parser.proofs.UnreadTokens.{unread-fault, has-colon, colon-ended, colon-missing}
 use Rattle.facet_json_parser.proofs.passing.colon.Goals as goal

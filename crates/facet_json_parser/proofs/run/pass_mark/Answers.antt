@@ -5,7 +5,7 @@ use Rattle.facet_format.specs.Event.{ContainerKind}
 use Rattle.facet_format.specs.Span.{Span, stop, span_at}
 use Rattle.facet_format.specs.Views.{span_of, container_of}
 use Rattle.facet_json_token.specs.Views.{mode_of}
-use Rattle.facet_json_document.specs.Language.{lenient}
+use Rattle.facet_json_grammar.specs.Language.{lenient}
 use Rattle.facet_json_reader.proofs.CutsAtPlaces.{ends, stands, is_cut}
 use Rattle.facet_json_parser.specs.Inner.Leads.{RunComesTo, whole}
 use Rattle.facet_json_parser.proofs.RunSteps.{fault-stops, token-goes_on, token-stops}

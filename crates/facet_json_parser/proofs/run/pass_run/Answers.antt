@@ -5,8 +5,8 @@ use Rattle.facet_json_token.specs.declared.token.Token.TheVariants as code
 use Rattle.facet_format.specs.Views.{span_of}
 use Rattle.facet_json_token.specs.Token.{Kind, object_start, array_start}
 use Rattle.facet_json_token.specs.Views.{kind_of, mode_of}
-use Rattle.facet_json_document.specs.Node.{is_scalar}
-use Rattle.facet_json_document.specs.Place.{root, goes_on}
+use Rattle.facet_json_grammar.specs.Node.{is_scalar}
+use Rattle.facet_json_grammar.specs.Place.{root, goes_on}
 use Rattle.facet_json_parser.proofs.RunSteps.{scalar-ends}
 use Rattle.facet_json_parser.proofs.run.pass_run.Goals as goal
 

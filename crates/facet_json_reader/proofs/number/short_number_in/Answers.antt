@@ -2,7 +2,7 @@
 use Rattle.std.proofs.Common.{◌+◌, slice_range, Option, Some, None}
 use Rattle.std.specs.Prelude.{IfSome, ℕ}
 use Rattle.facet_format.specs.Number.{float}
-use Rattle.facet_json_document.specs.Language.{lenient, strict}
+use Rattle.facet_json_grammar.specs.Language.{lenient, strict}
 use Rattle.facet_json_token.specs.RfcNumber.{IsRfcNumber}
 use Rattle.facet_json_token.specs.Gap.{Mode}
 use Rattle.facet_json_token.specs.Views.{mode_of}

@@ -1,6 +1,6 @@
 -- A number of RFC 8259 is allowed in each language.
 use Rattle.std.proofs.Common.{◌+◌}
-use Rattle.facet_json_document.specs.Language.{strict}
+use Rattle.facet_json_grammar.specs.Language.{strict}
 use Rattle.facet_json_token.specs.Views.{mode_of}
 use Rattle.facet_json_reader.specs.Inner.Whole.{whole_scalar}
 use Rattle.facet_json_reader.proofs.AllowedTexts.{rfc_number-allowed}

@@ -1,7 +1,7 @@
 use Rattle.std.proofs.Common.{refl}
 use Rattle.std.proofs.lemmas.Result.{err_from_is_err_and}
 use Rattle.facet_json_reader.specs.PlaceViews.{language_of}
-use Rattle.facet_json_document.specs.Place.{after_key}
+use Rattle.facet_json_grammar.specs.Place.{after_key}
 use Rattle.facet_json_reader.proofs.ScannedTokens.{cut-readable, fault-stops}
 use Rattle.facet_json_reader.proofs.ColonAfterKey.{colon-stands, colon-ends, colon-other}
 use Rattle.facet_json_reader.proofs.reader.colon.Goals as goal

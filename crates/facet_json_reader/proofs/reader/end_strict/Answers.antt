@@ -3,7 +3,7 @@ use Rattle.std.proofs.Common.{arith}
 use Rattle.std.proofs.lemmas.Result.{err_from_is_err_and}
 use Rattle.facet_format.specs.Views.{span_of}
 use Rattle.facet_json_token.specs.Views.{mode_of}
-use Rattle.facet_json_document.specs.Language.{strict}
+use Rattle.facet_json_grammar.specs.Language.{strict}
 use Rattle.facet_json_reader.proofs.BehindRoot.{end-behind, fault-behind, token-behind}
 use Rattle.facet_json_reader.proofs.ScannedTokens.{cut-readable}
 use Rattle.facet_json_reader.proofs.reader.end_strict.Goals as goal

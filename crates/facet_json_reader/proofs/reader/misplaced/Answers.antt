@@ -1,5 +1,5 @@
 use Rattle.facet_format.specs.Views.{span_of}
-use Rattle.facet_json_document.specs.Refusal.{meaningless}
+use Rattle.facet_json_grammar.specs.Refusal.{meaningless}
 use Rattle.facet_json_reader.proofs.TokenMeanings.{named-stops}
 use Rattle.facet_json_reader.proofs.reader.misplaced.Goals as goal
 

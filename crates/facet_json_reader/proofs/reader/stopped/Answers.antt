@@ -1,5 +1,5 @@
 use Rattle.std.proofs.Common.{rules}
-use Rattle.facet_json_document.specs.Refusal.{at_end}
+use Rattle.facet_json_grammar.specs.Refusal.{at_end}
 use Rattle.facet_json_reader.specs.PlaceViews.{place_of}
 use Rattle.facet_json_reader.proofs.reader.stopped.Goals as goal
 

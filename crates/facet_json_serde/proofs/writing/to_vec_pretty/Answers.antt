@@ -1,5 +1,5 @@
 use Rattle.std.proofs.Common.{true, IfOk, ap, ◌∙◌, subst}
-use Rattle.facet_json_document.specs.Text.{Options}
+use Rattle.facet_json_grammar.specs.Text.{Options}
 use Rattle.facet_json_serde.specs.OneValue.{IsTextOfTree}
 use Rattle.facet_json_serde.proofs.writing.to_vec_pretty.Goals as goal
 

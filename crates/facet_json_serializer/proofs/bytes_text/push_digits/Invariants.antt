@@ -1,6 +1,6 @@
 use Rattle.std.proofs.Common.{◌≡◌, ◌++◌, take}
 use Rattle.std.specs.List.{flat_map}
-use Rattle.facet_json_document.specs.Quoted.{hex_byte}
+use Rattle.facet_json_grammar.specs.Quoted.{hex_byte}
 use Rattle.facet_json_serializer.proofs.bytes_text.push_digits.Given as goal
 
 abbrev pub invariant-loop-byte : goal.invariant-loop-byte

@@ -1,5 +1,5 @@
 use Rattle.std.proofs.Common.{◌≡◌, ◌++◌, drop}
-use Rattle.facet_json_document.specs.Text.{numbers}
+use Rattle.facet_json_grammar.specs.Text.{numbers}
 use Rattle.facet_json_serializer.proofs.ByteTexts.{numbers_on}
 use Rattle.facet_json_serializer.proofs.bytes_text.push_numbers.Given as goal
 

@@ -1,5 +1,5 @@
 use Rattle.std.proofs.Common.{◌++◌, ap, ◌∙◌, append_assoc, add-one}
-use Rattle.facet_json_document.specs.Text.{indents}
+use Rattle.facet_json_grammar.specs.Text.{indents}
 use Rattle.facet_json_serializer.proofs.ByteTexts.{indents-one_more}
 use Rattle.facet_json_serializer.proofs.options.push_indented_line.Goals as goal
 

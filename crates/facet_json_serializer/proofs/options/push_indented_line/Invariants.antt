@@ -1,5 +1,5 @@
 use Rattle.std.proofs.Common.{◌≡◌, ◌++◌}
-use Rattle.facet_json_document.specs.Text.{indents}
+use Rattle.facet_json_grammar.specs.Text.{indents}
 use Rattle.facet_json_serializer.proofs.options.push_indented_line.Given as goal
 
 abbrev pub invariant-loop : goal.invariant-loop

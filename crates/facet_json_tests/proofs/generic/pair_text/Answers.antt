@@ -2,9 +2,9 @@ use Rattle.std.proofs.Common.{◌≡◌, ℕ, List, [], ◌∷◌, Option, Some,
 use Rattle.std.proofs.lemmas.Option.{same_Some}
 use Rattle.facet_format.specs.Event.{u64}
 use Rattle.facet_format.specs.SerializerCall.{begin_seq, end_seq, scalar, TakesAll}
-use Rattle.facet_json_document.specs.Text.{default_options, text}
-use Rattle.facet_json_document.specs.Tree.{Tree, list, tree, no_trees}
-use Rattle.facet_json_document.specs.Tree as trees
+use Rattle.facet_json_grammar.specs.Text.{default_options, text}
+use Rattle.facet_json_grammar.specs.Tree.{Tree, list, tree, no_trees}
+use Rattle.facet_json_grammar.specs.Tree as trees
 use Rattle.facet_json_serializer.specs.Serializer.{Writing, Takes}
 use Rattle.facet_json_serializer.specs.TreeCalls.{tree_calls, item_calls}
 use Rattle.facet_json_serializer.proofs.CallsTaken.{tree_taken}

@@ -1,6 +1,6 @@
 use Rattle.std.proofs.Common.{◌≡◌, List, ℕ, true, ◌++◌, drop}
 use Rattle.std.specs.Fmt.{HasWritten, IsPlainFormatter}
-use Rattle.facet_json_document.specs.Text.{default_options, items_text, members_text}
+use Rattle.facet_json_grammar.specs.Text.{default_options, items_text, members_text}
 use Rattle.facet_json_tree.specs.Views.{trees_view, pairs_view}
 use Rattle.facet_json_tree.proofs.display.+show.Given as goal
 

@@ -1,6 +1,6 @@
 use Rattle.std.proofs.Common.{◌≡◌, List, ℕ, ◌++◌, drop}
 use Rattle.std.specs.Fmt.{HasWritten, IsPlainFormatter}
-use Rattle.facet_json_document.specs.Text.{numbers}
+use Rattle.facet_json_grammar.specs.Text.{numbers}
 use Rattle.facet_json_tree.proofs.Shown.{numbers_after}
 use Rattle.facet_json_tree.proofs.display.show_bytes.Given as goal
 

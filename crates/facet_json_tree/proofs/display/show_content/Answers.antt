@@ -3,7 +3,7 @@ use Rattle.std.proofs.Output.{has_written_append, has_written_of_eq}
 use Rattle.std.proofs.lemmas.Grind.{common_steps}
 use Rattle.std.proofs.lemmas.Str.{IsCharBoundary-start, IsCharBoundary-after_ascii, IsCharBoundary-before_ascii}
 use Rattle.std.specs.List.{slice_range}
-use Rattle.facet_json_document.specs.Quoted.{escaped}
+use Rattle.facet_json_grammar.specs.Quoted.{escaped}
 use Rattle.facet_json_tree.proofs.ShownTexts.{IsLeft-escape, IsLeft-plain, IsLeft-end}
 use Rattle.facet_json_tree.proofs.display.show_content.Goals as goal
 use Rattle.facet_json_tree.proofs.display.show_content.Goals.{then-needs_escape+in_ok-write_str+in_ok-show_escaped, else-needs_escape}

@@ -2,7 +2,7 @@ use Rattle.std.proofs.Common.{◌≡◌, ◌≤◌, List, ℕ, ◌++◌, drop}
 use Rattle.std.specs.Fmt.{HasWritten, IsPlainFormatter}
 use Rattle.std.specs.List.{flat_map, slice_range}
 use Rattle.std.specs.Str.{IsCharBoundary}
-use Rattle.facet_json_document.specs.Quoted.{escaped}
+use Rattle.facet_json_grammar.specs.Quoted.{escaped}
 use Rattle.facet_json_tree.proofs.display.show_content.Given as goal
 
 abbrev pub invariant-loop-at : goal.invariant-loop-at

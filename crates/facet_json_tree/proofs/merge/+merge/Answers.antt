@@ -1,6 +1,6 @@
 use Rattle.std.proofs.Common.{◌≡◌, ◌+◌, false, drop, ap, sym, ◌∙◌, arith}
 use Rattle.std.proofs.lemmas.List.{drop_all}
-use Rattle.facet_json_document.specs.Tree.{pairs}
+use Rattle.facet_json_grammar.specs.Tree.{pairs}
 use Rattle.facet_json_tree.specs.Content.{is_null}
 use Rattle.facet_json_tree.specs.Edit.{set_member}
 use Rattle.facet_json_tree.specs.Merge.{merged, member_merged, members_merged, members_within}

@@ -1,6 +1,6 @@
 use Rattle.std.proofs.Common.{List, Option, ap, sym, ◌∙◌}
 use Rattle.std.specs.Prelude.{option_and_then}
-use Rattle.facet_json_document.specs.Tree.{Tree}
+use Rattle.facet_json_grammar.specs.Tree.{Tree}
 use Rattle.facet_json_tree.specs.declared.tree.Tree.{Tree as RustTree}
 use Rattle.facet_json_tree.specs.Inner.PointerParts.{unescaped}
 use Rattle.facet_json_tree.specs.Lookup.{item_at}

@@ -1,6 +1,6 @@
 use Rattle.std.proofs.Common.{◌≡◌, ◌+◌, ◌*◌, [], map, string_bytes}
 use Rattle.facet_format.specs.Event.{array, object}
-use Rattle.facet_json_document.specs.Now.{Now, ahead, future_of}
+use Rattle.facet_json_grammar.specs.Now.{Now, ahead, future_of}
 use Rattle.facet_json_core.specs.Meaning.Nodes.{KeepsOn}
 use Rattle.facet_json_core.specs.Meaning.OneValue.{IsInside}
 use Rattle.facet_json_tree.specs.Inner.Beyond.{SameBeyond}

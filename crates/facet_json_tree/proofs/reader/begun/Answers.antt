@@ -1,7 +1,7 @@
 use Rattle.std.proofs.Common.{ap, ◌∙◌}
 use Rattle.std.proofs.lemmas.Result.{IfOk-weaker, IfErr-weaker}
 use Rattle.facet_format.specs.Views.{event_kind_of}
-use Rattle.facet_json_document.specs.Tree.{list, pairs}
+use Rattle.facet_json_grammar.specs.Tree.{list, pairs}
 use Rattle.facet_json_tree.specs.Views.{trees_view, pairs_view}
 use Rattle.facet_json_tree.specs.Inner.Reading.{whole, a_list, an_object, a_scalar}
 use Rattle.facet_json_tree.proofs.TreeViews.{tree_view-List, tree_view-Pairs}

@@ -1,6 +1,6 @@
 use Rattle.std.proofs.Common.{◌≡◌, ◌++◌, ◌∷◌, [], ◌+◌, take, ap, sym, ◌∙◌, arith}
 use Rattle.std.proofs.lemmas.List.{take_more}
-use Rattle.facet_json_document.specs.Tree.{pairs}
+use Rattle.facet_json_grammar.specs.Tree.{pairs}
 use Rattle.facet_json_tree.specs.Sorted.{sorted, items_sorted, values_sorted, in_order}
 use Rattle.facet_json_tree.specs.Views.{tree_view, trees_view, pairs_view}
 use Rattle.facet_json_tree.proofs.TreeViews.{tree_view-Pairs}

@@ -2,7 +2,7 @@ use Rattle.std.proofs.Common.{◌≡◌, [], drop, not, string_bytes, refl, sym,
 use Rattle.std.proofs.lemmas.Bool.{not-false}
 use Rattle.std.proofs.lemmas.List.{drop_all}
 use Rattle.std.specs.Cmp.Lexicographic.{bytes_decides}
-use Rattle.facet_json_document.specs.Tree.{pairs}
+use Rattle.facet_json_grammar.specs.Tree.{pairs}
 use Rattle.facet_json_tree.specs.Views.{tree_view, trees_view, pairs_view}
 use Rattle.facet_json_tree.proofs.TreeViews.{trees_view-length, pairs_view-length, trees_view-drop, pairs_view-drop, tree_view-Pairs}
 use Rattle.facet_json_tree.proofs.tree.+same.Goals as goal

@@ -8,16 +8,16 @@ use Rattle.std.specs.Str.{is_utf8}
 use Rattle.std.proofs.lemmas.List.{drop_all, append_assoc}
 use Rattle.std.proofs.lemmas.Str.{is_utf8-from_IsUtf8, IsUtf8-string_bytes}
 use Rattle.facet_format.specs.Event as event
-use Rattle.facet_json_document.specs.Text.{text}
-use Rattle.facet_json_document.specs.Tree.{list, pairs}
-use Rattle.facet_json_document.specs.Tree as tree
+use Rattle.facet_json_grammar.specs.Text.{text}
+use Rattle.facet_json_grammar.specs.Tree.{list, pairs}
+use Rattle.facet_json_grammar.specs.Tree as tree
 use Rattle.facet_format.specs.SerializerCall.{begin_struct, field_key, end_struct, begin_seq, end_seq, scalar}
 use Rattle.facet_json_serializer.specs.Serializer.{Appends}
 use Rattle.facet_json_serializer.specs.Views.{call_answer_of}
 use Rattle.facet_json_serializer.specs.TreeCalls.{tree_calls, item_calls, member_calls}
 use Rattle.facet_json_tree.specs.Views.{tree_view, trees_view, pairs_view}
 use Rattle.facet_json_tree.proofs.TreeViews.{tree_view-Null, tree_view-Unit, tree_view-Bool, tree_view-Char, tree_view-I64, tree_view-U64, tree_view-I128, tree_view-U128, tree_view-Decimal, tree_view-Text, tree_view-Bytes, tree_view-Raw, tree_view-Pairs, trees_view-drop, pairs_view-drop}
-use Rattle.facet_json_document.specs.AsRead.{WellFormed, RawParts}
+use Rattle.facet_json_grammar.specs.AsRead.{WellFormed, RawParts}
 use Rattle.facet_json_tree.specs.Write.{IsOfRust}
 use Rattle.facet_json_tree.proofs.CallsLeft.{AreLeft, call-made, first-made, tree-made, left-refused, left-spent, last-answered, last-refused, last-spent}
 use Rattle.facet_json_tree.proofs.OfRust.{item-of_rust, no_item-of_rust, member-of_rust, no_member-of_rust, fits-within, seen-of_rust}

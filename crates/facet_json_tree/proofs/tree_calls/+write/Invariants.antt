@@ -1,5 +1,5 @@
 use Rattle.std.proofs.Common.{◌∷◌, [], ◌++◌, drop}
-use Rattle.facet_json_document.specs.Tree.{list, pairs}
+use Rattle.facet_json_grammar.specs.Tree.{list, pairs}
 use Rattle.facet_format.specs.SerializerCall.{end_seq, end_struct}
 use Rattle.facet_json_serializer.specs.TreeCalls.{item_calls, member_calls}
 use Rattle.facet_json_tree.specs.Views.{trees_view, pairs_view}

@@ -1,7 +1,7 @@
 use Rattle.std.proofs.Common.{refl, arith}
 use Rattle.facet_format.specs.Event as event
-use Rattle.facet_json_document.specs.Tree.{bytes}
-use Rattle.facet_json_document.specs.AsRead.{WellFormed, RawParts}
+use Rattle.facet_json_grammar.specs.Tree.{bytes}
+use Rattle.facet_json_grammar.specs.AsRead.{WellFormed, RawParts}
 use Rattle.facet_json_tree.proofs.OfRust.{bytes-below, seen-of_rust}
 use Rattle.facet_json_tree.proofs.ScalarCalls.{scalar-called}
 use Rattle.facet_json_tree.proofs.tree_calls.write_bytes.Goals as goal

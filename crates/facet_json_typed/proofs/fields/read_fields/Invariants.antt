@@ -1,5 +1,5 @@
 use Rattle.std.proofs.Common.{◌≡◌, false}
-use Rattle.facet_json_document.specs.Now.{ahead}
+use Rattle.facet_json_grammar.specs.Now.{ahead}
 use Rattle.facet_json_typed.specs.Fields.{keys, table}
 use Rattle.facet_json_typed.proofs.FieldSteps.{IsUnderWay}
 use Rattle.facet_json_typed.proofs.fields.read_fields.Given as goal

@@ -3,7 +3,7 @@ use Rattle.std.proofs.Common.{◌∙◌, ap, arith}
 use Rattle.std.proofs.lemmas.Result.{err_from_is_err_and}
 use Rattle.std.specs.Prelude.{Err}
 use Rattle.facet_format.specs.Span.{stop}
-use Rattle.facet_json_document.specs.Now.{Now}
+use Rattle.facet_json_grammar.specs.Now.{Now}
 use Rattle.facet_json_typed.proofs.FirstRead.{first-value}
 use Rattle.facet_json_typed.proofs.RunBegins.{ends-from, ends-within}
 use Rattle.facet_json_typed.proofs.prefix.value_and_end.Goals as goal

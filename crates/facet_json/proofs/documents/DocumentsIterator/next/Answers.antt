@@ -2,8 +2,8 @@ use Rattle.std.proofs.Common.{◌≡◌, ◌<◌, ◌∙◌, ap, arith, length, 
 use Rattle.facet_format.specs.Views.{refusal_of}
 use Rattle.facet_json_token.specs.Cut.{past_gap}
 use Rattle.facet_json_token.specs.Gap.{plain}
-use Rattle.facet_json_document.specs.Language.{lenient}
-use Rattle.facet_json_document.specs.UnreadLaws.{RefusalWithin}
+use Rattle.facet_json_grammar.specs.Language.{lenient}
+use Rattle.facet_json_grammar.specs.UnreadLaws.{RefusalWithin}
 use Rattle.facet_json.specs.Documents.{Documents, after, moved, nothing, read_up, refused, value}
 use Rattle.facet_json_typed.specs.Inputs.{BeginsWithDocument, BeginsWithRunTo, IsReadFrom, IsToldOf, IsUnreadFrom}
 use Rattle.facet_json.proofs.documents.DocumentsIterator.next.Goals as goal

@@ -3,7 +3,7 @@ use Rattle.std.proofs.lemmas.Bool.Decides.{Decides-eqb}
 use Rattle.std.proofs.lemmas.Bool.{true≢false}
 use Rattle.std.proofs.lemmas.Slice.Eq.{slice_eq-Decides}
 use Rattle.facet_json_token.specs.Gap.{plain, jsonc}
-use Rattle.facet_json_document.specs.Language.{lenient, strict}
+use Rattle.facet_json_grammar.specs.Language.{lenient, strict}
 use Rattle.facet_json_command.specs.Arguments.{comments, strictly, indented}
 use Rattle.facet_json_command.proofs.Operands.{Asks, by_comments, by_strict, taken_or, one_more_operand, one_more_asked, one_more_indent, no_second_language, no_second_indent, no_second_operand}
 use Rattle.facet_json_command.proofs.arguments.Words.with.Goals as goal

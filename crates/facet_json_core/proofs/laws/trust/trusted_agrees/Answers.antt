@@ -1,6 +1,6 @@
 use Rattle.std.proofs.Common.{sym, ◌∙◌, subst}
-use Rattle.facet_json_document.specs.ParserLaws.{AnswerAlike}
-use Rattle.facet_json_document.proofs.MovesAgree.{moves-agree}
+use Rattle.facet_json_grammar.specs.ParserLaws.{AnswerAlike}
+use Rattle.facet_json_grammar.proofs.MovesAgree.{moves-agree}
 use Rattle.facet_json_core.proofs.laws.trust.trusted_agrees.Goals as goal
 
 pub returns-clause-alike : goal.returns-clause-alike

@@ -2,8 +2,8 @@ use Rattle.std.proofs.Common.{◌≡◌, true, subst}
 use Rattle.std.specs.Str.{is_utf8}
 use Rattle.std.proofs.lemmas.Str.{is_utf8-from_IsUtf8}
 use Rattle.facet_format.specs.Event.{bytes_of}
-use Rattle.facet_json_document.specs.Text.{text}
-use Rattle.facet_json_document.specs.Tree.{raw}
+use Rattle.facet_json_grammar.specs.Text.{text}
+use Rattle.facet_json_grammar.specs.Tree.{raw}
 use Rattle.facet_json_tree.proofs.ScalarCalls.{raw-called}
 use Rattle.facet_json_facet.proofs.ScalarsOfRust.{on-ok, raw-of_rust}
 use Rattle.facet_json_facet.proofs.raw.RawJsonFacet.write.Goals as goal

@@ -1,4 +1,4 @@
-use Rattle.facet_json_document.specs.Now.{ahead}
+use Rattle.facet_json_grammar.specs.Now.{ahead}
 use Rattle.facet_json_facet.proofs.KeysFound.{IsSearching}
 use Rattle.facet_json_facet.proofs.steps.find.find_key.Given as goal
 

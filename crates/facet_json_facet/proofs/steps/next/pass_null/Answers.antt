@@ -3,7 +3,7 @@ use Rattle.std.proofs.lemmas.Result.{err_from_is_err_and, IfErr-weaker, on_ok_we
 use Rattle.facet_format.specs.Complaint.{Refusal}
 use Rattle.facet_format.specs.Event.{Event}
 use Rattle.facet_format.specs.Views.{refusal_of}
-use Rattle.facet_json_document.specs.Now.{Now}
+use Rattle.facet_json_grammar.specs.Now.{Now}
 use Rattle.facet_json_core.specs.Meaning.Optional.{is_null_event}
 use Rattle.facet_json_core.specs.Meaning.Passing.{WalksPast, LacksAlone, LacksNull}
 use Rattle.facet_json_core.proofs.Refusing.{event-tells, mismatch-about}

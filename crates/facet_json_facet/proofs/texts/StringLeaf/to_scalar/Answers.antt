@@ -1,6 +1,6 @@
 use Rattle.std.proofs.Common.{sym, ap}
 use Rattle.std.proofs.lemmas.Str.{is_utf8-from_IsUtf8, IsUtf8-string_bytes}
-use Rattle.facet_json_document.specs.Tree.{text}
+use Rattle.facet_json_grammar.specs.Tree.{text}
 use Rattle.facet_json_facet.proofs.ScalarsOfRust.{text-of_rust}
 use Rattle.facet_json_facet.proofs.texts.StringLeaf.to_scalar.Goals as goal
 

@@ -2,8 +2,8 @@ use Rattle.std.proofs.Common.{◌≡◌, false, Some, refl, sym, ap, ◌∙◌, 
 use Rattle.std.specs.Option.{option_map}
 use Rattle.std.proofs.lemmas.Result.{err_from_is_err_and}
 use Rattle.facet_format.specs.Views.{event_of}
-use Rattle.facet_json_document.specs.Future.{finished}
-use Rattle.facet_json_document.specs.Reader.{future_at}
+use Rattle.facet_json_grammar.specs.Future.{finished}
+use Rattle.facet_json_grammar.specs.Reader.{future_at}
 use Rattle.facet_json_reader.specs.PlaceViews.{language_of}
 use Rattle.facet_json_reader.specs.Views.{passed_of}
 use Rattle.facet_json_parser.specs.Lookahead.{lookahead_with, reader_before, spot_of, TakesHeld}

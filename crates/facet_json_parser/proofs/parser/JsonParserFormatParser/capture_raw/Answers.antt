@@ -1,7 +1,7 @@
 use Rattle.std.proofs.Common.{refl}
 use Rattle.std.proofs.lemmas.Result.{err_from_is_err_and}
 use Rattle.facet_json_reader.specs.PlaceViews.{refused_of}
-use Rattle.facet_json_document.proofs.Spans.BytesAhead.{capture-lowers}
+use Rattle.facet_json_grammar.proofs.Spans.BytesAhead.{capture-lowers}
 use Rattle.facet_json_parser.specs.Lookahead.{spot_of}
 use Rattle.facet_json_parser.specs.Views.{lookahead_of}
 use Rattle.facet_json_parser.proofs.ParserWithin.{ready-within, moved}

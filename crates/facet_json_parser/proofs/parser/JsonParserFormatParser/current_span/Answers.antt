@@ -1,8 +1,8 @@
 use Rattle.std.proofs.Common.{◌≡◌, Some, refl, rules}
 use Rattle.facet_format.specs.Span.{Span}
 use Rattle.facet_format.specs.Cursor.{spans}
-use Rattle.facet_json_document.specs.Now.{Now, current_span_of}
-use Rattle.facet_json_document.proofs.MoveIsStep.{move-steps}
+use Rattle.facet_json_grammar.specs.Now.{Now, current_span_of}
+use Rattle.facet_json_grammar.proofs.MoveIsStep.{move-steps}
 use Rattle.facet_json_parser.proofs.AnswersAreMoves.{told-moves}
 use Rattle.facet_json_parser.proofs.ParserWithin.{ready-within, told-within}
 use Rattle.facet_json_parser.proofs.parser.JsonParserFormatParser.current_span.Goals as goal

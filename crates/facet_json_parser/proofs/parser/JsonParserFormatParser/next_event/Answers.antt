@@ -3,7 +3,7 @@ use Rattle.std.proofs.Common.{◌≡◌, Some, Ok, refl, sym, ap₂, subst}
 use Rattle.facet_format.specs.Cursor.{event, next}
 use Rattle.facet_format.specs.Event.{Event}
 use Rattle.facet_format.specs.Views.{event_kind_of, event_of, span_of}
-use Rattle.facet_json_document.specs.Move.{Moves}
+use Rattle.facet_json_grammar.specs.Move.{Moves}
 use Rattle.facet_json_parser.proofs.AnswersAreMoves.{result-passes, result-over}
 use Rattle.facet_json_parser.proofs.ParserWithin.{moved, result-lowers}
 use Rattle.facet_json_parser.proofs.parser.JsonParserFormatParser.next_event.Goals as goal

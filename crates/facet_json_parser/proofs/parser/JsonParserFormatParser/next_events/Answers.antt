@@ -1,9 +1,9 @@
 use Rattle.std.proofs.Common.{◌≡◌, ◌<◌, [], ◌∷◌, ◌++◌, ◌∙◌, ap, subst, arith}
 use Rattle.std.proofs.lemmas.Result.{err_from_is_err_and}
-use Rattle.facet_json_document.specs.Within.{NowWithin}
+use Rattle.facet_json_grammar.specs.Within.{NowWithin}
 use Rattle.facet_json_parser.proofs.EventsInBatch.{none-given, event-given, given-none, given-more, given-end, given-refused, given-full, given-within, given-pass, given-pass_refused}
-use Rattle.facet_json_document.proofs.MoveIsStep.{move-steps}
-use Rattle.facet_json_document.proofs.MovesNext.{events-over}
+use Rattle.facet_json_grammar.proofs.MoveIsStep.{move-steps}
+use Rattle.facet_json_grammar.proofs.MovesNext.{events-over}
 use Rattle.facet_json_parser.proofs.ParserWithin.{batch-within, batch-goes_on, batch-lowers}
 use Rattle.facet_json_parser.proofs.parser.JsonParserFormatParser.next_events.Goals as goal
 

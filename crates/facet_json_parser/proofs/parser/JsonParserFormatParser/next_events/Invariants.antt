@@ -1,7 +1,7 @@
 use Rattle.std.proofs.Common.{◌≡◌, ◌<◌, List, ◌++◌, map, length}
 use Rattle.facet_format.specs.declared.event.ParseEvent.{ParseEvent}
 use Rattle.facet_format.specs.Views.{event_of}
-use Rattle.facet_json_document.specs.Within.{NowWithin}
+use Rattle.facet_json_grammar.specs.Within.{NowWithin}
 use Rattle.facet_json_parser.proofs.EventsInBatch.{GivenSoFar}
 use Rattle.facet_json_parser.proofs.parser.JsonParserFormatParser.next_events.Given as goal
 

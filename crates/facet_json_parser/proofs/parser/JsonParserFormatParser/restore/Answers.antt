@@ -4,7 +4,7 @@ use Rattle.facet_json_parser.specs.Lookahead.{spot_of}
 use Rattle.facet_json_parser.specs.Views.{lookahead_of, point_of, kept_spot, now_of}
 use Rattle.facet_json_parser.proofs.KeptSpots.{found-spot, without-spots}
 use Rattle.facet_json_parser.proofs.PointsByPlace.{old-ready}
-use Rattle.facet_json_document.proofs.MoveIsStep.{move-steps}
+use Rattle.facet_json_grammar.proofs.MoveIsStep.{move-steps}
 use Rattle.facet_json_parser.proofs.AnswersAreMoves.{restore-brings, restore-leaves}
 use Rattle.facet_json_parser.proofs.ParserWithin.{restore-uses}
 use Rattle.facet_json_parser.proofs.parser.JsonParserFormatParser.restore.Goals as goal

@@ -5,8 +5,8 @@ use Rattle.facet_format.specs.Complaint.{refusal_at, save_limit}
 use Rattle.facet_json_parser.specs.Views.{lookahead_of, point_of, kept_spot, now_of}
 use Rattle.facet_json_parser.proofs.KeptSpots.{with_point-spots}
 use Rattle.facet_json_parser.proofs.PointsByPlace.{at-greatest, below-greatest, next-number, new-ready}
-use Rattle.facet_json_document.proofs.MoveIsStep.{move-steps}
-use Rattle.facet_json_document.proofs.MoveLaws.{moves-saved, moves-unsaved}
+use Rattle.facet_json_grammar.proofs.MoveIsStep.{move-steps}
+use Rattle.facet_json_grammar.proofs.MoveLaws.{moves-saved, moves-unsaved}
 use Rattle.facet_json_parser.proofs.AnswersAreMoves.{save-repeats, save-stops, save-fails, save-keeps}
 use Rattle.facet_json_parser.proofs.ParserWithin.{ready-within, answer-within, save-onward, number-new}
 use Rattle.facet_json_parser.proofs.parser.JsonParserFormatParser.save.Goals as goal

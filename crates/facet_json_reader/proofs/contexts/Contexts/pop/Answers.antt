@@ -1,5 +1,5 @@
 use Rattle.std.proofs.Common.{◌≡◌, suc, ◌-◌, ◌∷◌, reverse, ap, ◌∙◌, arith, rules}
-use Rattle.facet_json_document.specs.Future.{around}
+use Rattle.facet_json_grammar.specs.Future.{around}
 use Rattle.facet_json_reader.specs.Packed.{kinds_in}
 use Rattle.facet_json_reader.proofs.PackedKinds.{kinds-shorter_word, kinds-popped_word}
 use Rattle.facet_json_reader.proofs.contexts.Contexts.pop.Goals as goal

@@ -4,7 +4,7 @@ use Rattle.std.proofs.lemmas.Option.{slice_get_within}
 use Rattle.facet_format.specs.Bytes.{comma as comma_byte}
 use Rattle.facet_json_token.specs.Cut.{start_of}
 use Rattle.facet_json_token.specs.Token.{comma}
-use Rattle.facet_json_document.specs.Language.{gaps}
+use Rattle.facet_json_grammar.specs.Language.{gaps}
 use Rattle.facet_json_token.proofs.Offsets.{slice_get-from_read}
 use Rattle.facet_json_reader.specs.PlaceViews.{language_of, place_of}
 use Rattle.facet_json_reader.specs.Views.{stage_of}

@@ -1,6 +1,6 @@
 -- The bracket gives the end of the container.
 use Rattle.std.proofs.Common.{ap, ◌∙◌}
-use Rattle.facet_json_document.specs.Language.{gaps}
+use Rattle.facet_json_grammar.specs.Language.{gaps}
 use Rattle.facet_json_reader.specs.PlaceViews.{place_of, closing_event, closing_token, turn_by}
 use Rattle.facet_json_reader.proofs.QuickEvents.{bracket-passes, closing-cut}
 use Rattle.facet_json_reader.proofs.SortsOfTokens.{closes-own}

@@ -1,6 +1,6 @@
 -- The literal gives its event.
 use Rattle.std.proofs.Common.{sym, ◌∙◌, length, refl}
-use Rattle.facet_json_document.proofs.TokensIn.{allowed-plain}
+use Rattle.facet_json_grammar.proofs.TokensIn.{allowed-plain}
 use Rattle.facet_json_reader.proofs.QuickEvents.{word-there, word-plain, scalar-passes}
 use Rattle.facet_json_reader.proofs.reader.Reader.pass_word.Goals as goal
 

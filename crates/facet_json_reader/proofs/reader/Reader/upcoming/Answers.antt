@@ -2,7 +2,7 @@ use Rattle.std.proofs.Common.{◌≡◌, ◌∙◌, refl, sym, ap, subst, arith}
 use Rattle.std.proofs.lemmas.Result.{err_from_is_err_and}
 use Rattle.facet_format.specs.Views.{span_of}
 use Rattle.facet_json_token.specs.Views.{kind_of}
-use Rattle.facet_json_document.specs.Place.{stops}
+use Rattle.facet_json_grammar.specs.Place.{stops}
 use Rattle.facet_json_reader.specs.PlaceViews.{language_of, place_of, turn_of, turn_by}
 use Rattle.facet_json_reader.specs.declared.place.Turn.{Turn as RustTurn}
 use Rattle.facet_json_reader.specs.declared.place.Turn.TheVariants as turns

@@ -1,7 +1,7 @@
 -- Separators have been passed, and what comes is as it was.
 use Rattle.std.proofs.Common.{◌≡◌, ◌≤◌, ◌-◌, length}
 use Rattle.facet_json_reader.specs.PlaceViews.{language_of, place_of}
-use Rattle.facet_json_document.specs.Future.{within}
+use Rattle.facet_json_grammar.specs.Future.{within}
 use Rattle.facet_json_reader.specs.Views.{comes_at, coming}
 use Rattle.facet_json_reader.proofs.reader.Reader.upcoming.Given as goal
 

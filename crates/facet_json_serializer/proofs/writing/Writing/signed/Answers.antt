@@ -1,6 +1,6 @@
 use Rattle.std.proofs.Common.{rules}
 use Rattle.std.specs.Fmt.{signed_decimal}
-use Rattle.facet_json_document.specs.Text.{text}
+use Rattle.facet_json_grammar.specs.Text.{text}
 use Rattle.facet_json_serializer.specs.Views.{writing_of}
 use Rattle.facet_json_serializer.proofs.ValuesBegun.{written_after}
 use Rattle.facet_json_serializer.proofs.writing.Writing.signed.Goals as goal

@@ -1,8 +1,8 @@
 use Rattle.std.proofs.Common.{◌≡◌, rules}
 use Rattle.facet_format.specs.Event.{bytes_of}
 use Rattle.facet_format.specs.HeldText.{text_of}
-use Rattle.facet_json_document.specs.Quoted.{quoted}
-use Rattle.facet_json_document.specs.Text.{text}
+use Rattle.facet_json_grammar.specs.Quoted.{quoted}
+use Rattle.facet_json_grammar.specs.Text.{text}
 use Rattle.facet_json_serializer.specs.Views.{writing_of}
 use Rattle.facet_json_serializer.proofs.ValuesBegun.{written_alone}
 use Rattle.facet_json_serializer.proofs.writing.Writing.text.Goals as goal

@@ -1,5 +1,5 @@
 use Rattle.std.specs.Fmt.{decimal}
-use Rattle.facet_json_document.specs.Text.{text}
+use Rattle.facet_json_grammar.specs.Text.{text}
 use Rattle.facet_json_serializer.specs.Views.{writing_of}
 use Rattle.facet_json_serializer.proofs.ValuesBegun.{written_after}
 use Rattle.facet_json_serializer.proofs.writing.Writing.unsigned.Goals as goal

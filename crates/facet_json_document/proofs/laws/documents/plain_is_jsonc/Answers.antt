@@ -1,5 +1,0 @@
-use Rattle.facet_json_document.proofs.Spelling.PlainIsJsonc.{plain_is_jsonc}
-use Rattle.facet_json_document.proofs.laws.documents.plain_is_jsonc.Goals as goal
-
-pub returns : goal.returns
-returns c = plain_is_jsonc

@@ -1,5 +1,0 @@
-use Rattle.facet_json_document.proofs.InputIsAnswered.{alone_is_given}
-use Rattle.facet_json_document.proofs.laws.parsers.alone_is_given.Goals as goal
-
-pub returns : goal.returns
-returns c = alone_is_given

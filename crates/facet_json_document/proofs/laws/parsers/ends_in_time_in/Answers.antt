@@ -1,5 +1,0 @@
-use Rattle.facet_json_document.proofs.EndsInTime.{next-ends-in}
-use Rattle.facet_json_document.proofs.laws.parsers.ends_in_time_in.Goals as goal
-
-pub returns : goal.returns
-returns c = next-ends-in

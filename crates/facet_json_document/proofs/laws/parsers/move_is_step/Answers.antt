@@ -1,5 +1,0 @@
-use Rattle.facet_json_document.proofs.MoveIsStep.{move-steps}
-use Rattle.facet_json_document.proofs.laws.parsers.move_is_step.Goals as goal
-
-pub returns : goal.returns
-returns c = move-steps

@@ -1,5 +1,0 @@
-use Rattle.facet_json_document.proofs.MovesAgree.{moves-agree}
-use Rattle.facet_json_document.proofs.laws.parsers.moves_agree.Goals as goal
-
-pub returns : goal.returns
-returns c = moves-agree

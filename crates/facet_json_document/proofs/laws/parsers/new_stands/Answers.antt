@@ -1,5 +1,0 @@
-use Rattle.facet_json_document.proofs.StandsOnWalk.{fresh-stands}
-use Rattle.facet_json_document.proofs.laws.parsers.new_stands.Goals as goal
-
-pub returns : goal.returns
-returns c = fresh-stands

@@ -1,5 +1,0 @@
-use Rattle.facet_json_document.proofs.RefusalRepeats.{refused-repeats}
-use Rattle.facet_json_document.proofs.laws.parsers.refusal_repeats.Goals as goal
-
-pub returns : goal.returns
-returns c = refused-repeats

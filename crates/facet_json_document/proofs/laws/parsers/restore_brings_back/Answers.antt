@@ -1,5 +1,0 @@
-use Rattle.facet_json_document.proofs.RestoreBringsBack.{saved-back}
-use Rattle.facet_json_document.proofs.laws.parsers.restore_brings_back.Goals as goal
-
-pub returns : goal.returns
-returns c = saved-back

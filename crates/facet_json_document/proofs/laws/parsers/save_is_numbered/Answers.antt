@@ -1,5 +1,0 @@
-use Rattle.facet_json_document.proofs.RestoreBringsBack.{moves-numbered}
-use Rattle.facet_json_document.proofs.laws.parsers.save_is_numbered.Goals as goal
-
-pub returns : goal.returns
-returns c = moves-numbered

@@ -1,5 +1,0 @@
-use Rattle.facet_json_document.proofs.StrictAnswered.{strict-answered}
-use Rattle.facet_json_document.proofs.laws.parsers.strict_headline.Goals as goal
-
-pub returns : goal.returns
-returns c = strict-answered

@@ -1,5 +1,0 @@
-use Rattle.facet_json_document.proofs.Parts.OnePart.{one-part}
-use Rattle.facet_json_document.proofs.laws.parts.one_part.Goals as goal
-
-pub returns : goal.returns
-returns c = one-part

@@ -1,5 +1,0 @@
-use Rattle.facet_json_document.proofs.Parts.PartsOnWalk.{parts-on_walk}
-use Rattle.facet_json_document.proofs.laws.parts.parts_on_walk.Goals as goal
-
-pub returns : goal.returns
-returns c = parts-on_walk

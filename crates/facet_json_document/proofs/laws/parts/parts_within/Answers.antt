@@ -1,5 +1,0 @@
-use Rattle.facet_json_document.proofs.Parts.PartsWithin.{parts_within}
-use Rattle.facet_json_document.proofs.laws.parts.parts_within.Goals as goal
-
-pub returns : goal.returns
-returns c = parts_within

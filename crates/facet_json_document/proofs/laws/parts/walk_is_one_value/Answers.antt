@@ -1,5 +1,0 @@
-use Rattle.facet_json_document.proofs.Parts.WalksAreValues.{walk_is_one_value}
-use Rattle.facet_json_document.proofs.laws.parts.walk_is_one_value.Goals as goal
-
-pub returns : goal.returns
-returns c = walk_is_one_value

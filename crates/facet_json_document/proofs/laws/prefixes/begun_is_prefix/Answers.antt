@@ -1,5 +1,0 @@
-use Rattle.facet_json_document.proofs.BegunIsPrefix.{begun_is_prefix}
-use Rattle.facet_json_document.proofs.laws.prefixes.begun_is_prefix.Goals as goal
-
-pub returns : goal.returns
-returns c = begun_is_prefix

@@ -1,5 +1,0 @@
-use Rattle.facet_json_document.proofs.LongestPrefix.{input-comes}
-use Rattle.facet_json_document.proofs.laws.prefixes.input_comes.Goals as goal
-
-pub returns : goal.returns
-returns c = input-comes

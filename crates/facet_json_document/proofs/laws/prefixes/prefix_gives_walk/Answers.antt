@@ -1,5 +1,0 @@
-use Rattle.facet_json_document.proofs.PrefixGivesWalk.{prefix_gives_walk}
-use Rattle.facet_json_document.proofs.laws.prefixes.prefix_gives_walk.Goals as goal
-
-pub returns : goal.returns
-returns c = prefix_gives_walk

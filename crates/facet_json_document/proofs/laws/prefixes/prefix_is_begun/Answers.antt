@@ -1,5 +1,0 @@
-use Rattle.facet_json_document.proofs.BegunIsPrefix.{prefix_is_begun}
-use Rattle.facet_json_document.proofs.laws.prefixes.prefix_is_begun.Goals as goal
-
-pub returns : goal.returns
-returns c = prefix_is_begun

@@ -1,5 +1,0 @@
-use Rattle.facet_json_document.proofs.RefusedOnce.{refused_in_one_way}
-use Rattle.facet_json_document.proofs.laws.prefixes.refused_in_one_way.Goals as goal
-
-pub returns : goal.returns
-returns c = refused_in_one_way

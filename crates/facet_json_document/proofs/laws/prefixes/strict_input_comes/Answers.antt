@@ -1,5 +1,0 @@
-use Rattle.facet_json_document.proofs.StrictRoot.{strict_input-comes}
-use Rattle.facet_json_document.proofs.laws.prefixes.strict_input_comes.Goals as goal
-
-pub returns : goal.returns
-returns c = strict_input-comes

@@ -1,5 +1,0 @@
-use Rattle.facet_json_document.proofs.StrictRoot.{strict_is_plain}
-use Rattle.facet_json_document.proofs.laws.prefixes.strict_is_plain.Goals as goal
-
-pub returns : goal.returns
-returns c = strict_is_plain

@@ -1,5 +1,0 @@
-use Rattle.facet_json_document.proofs.Runs.OneRun.{no_run_breaks_off}
-use Rattle.facet_json_document.proofs.laws.runs.no_run_breaks_off.Goals as goal
-
-pub returns : goal.returns
-returns c = no_run_breaks_off

@@ -1,5 +1,0 @@
-use Rattle.facet_json_document.proofs.Runs.OneRun.{one_run}
-use Rattle.facet_json_document.proofs.laws.runs.one_run.Goals as goal
-
-pub returns : goal.returns
-returns c = one_run

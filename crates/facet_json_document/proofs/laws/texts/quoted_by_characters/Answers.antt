@@ -1,5 +1,0 @@
-use Rattle.facet_json_document.proofs.Writing.QuotedByCharacters as laws
-use Rattle.facet_json_document.proofs.laws.texts.quoted_by_characters.Goals as goal
-
-pub returns : goal.returns
-returns c = laws.quoted_by_characters

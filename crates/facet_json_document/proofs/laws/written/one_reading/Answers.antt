@@ -1,5 +1,0 @@
-use Rattle.facet_json_document.proofs.Values.Readings as laws
-use Rattle.facet_json_document.proofs.laws.written.one_reading.Goals as goal
-
-pub returns : goal.returns
-returns c = laws.one_reading

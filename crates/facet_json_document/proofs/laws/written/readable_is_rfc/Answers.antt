@@ -1,5 +1,0 @@
-use Rattle.facet_json_document.proofs.Strict.ReadableTexts.{readable-is_rfc}
-use Rattle.facet_json_document.proofs.laws.written.readable_is_rfc.Goals as goal
-
-pub returns : goal.returns
-returns c = readable-is_rfc

@@ -1,5 +1,0 @@
-use Rattle.facet_json_document.proofs.Values.TreeTexts as laws
-use Rattle.facet_json_document.proofs.laws.written.written_is_read.Goals as goal
-
-pub returns : goal.returns
-returns c = laws.written_is_read

@@ -1,0 +1,2 @@
+-- Definitions that serve private contracts and rows alone.
+pub mod PassedRun

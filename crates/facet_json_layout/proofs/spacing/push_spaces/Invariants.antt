@@ -1,6 +1,0 @@
--- White space is appended.
-use Rattle.facet_json_layout.specs.Inner.Layout.{IsIndented}
-use Rattle.facet_json_layout.proofs.spacing.push_spaces.Given as goal
-
-abbrev pub invariant-loop : goal.invariant-loop
-invariant-loop l = IsIndented l.initial.out l.out

@@ -1,6 +1,0 @@
--- Definitions that serve private contracts alone.
-pub mod Building
-pub mod Checking
-pub mod Held
-pub mod Layout
-pub mod Looking

@@ -1,4 +1,0 @@
-pub mod Formatted
-pub mod Inner
-pub mod Nodes
-pub mod Pieces
