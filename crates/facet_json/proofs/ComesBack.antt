@@ -9,7 +9,7 @@ use Rattle.facet_json_grammar.specs.Text.{Options, default_options, text}
 use Rattle.facet_json_grammar.specs.Tree.{Tree}
 use Rattle.facet_json_grammar.proofs.Spelling.OneSpelling.{one_document}
 use Rattle.facet_json_core.specs.Meaning.Laws.{ReadsAs, ReadsBack}
-use Rattle.facet_json_typed.specs.Inputs.{ComesBack}
+use Rattle.facet_json_facet.specs.Inputs.{ComesBack}
 
 comes-back : {V : Type 0} (reading : List ℕ → Node → Option V) (bytes : List ℕ) (value : V) → ReadsAs V reading bytes value →
     ComesBack reading bytes value

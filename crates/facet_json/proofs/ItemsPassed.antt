@@ -9,7 +9,7 @@ use Rattle.facet_json_grammar.specs.Node.{Node, Nodes, no_nodes, item}
 use Rattle.facet_json_grammar.specs.Now.{Now, ahead}
 use Rattle.facet_json_core.specs.Meaning.ListSteps.{ends_list}
 use Rattle.facet_json_core.specs.Meaning.Passing.{anything, LacksAlone}
-use Rattle.facet_json_core.specs.Meaning.Inner.Taking.{Takes, StaysBefore}
+use Rattle.facet_json_core.specs.Meaning.Taking.{Takes, StaysBefore}
 use Rattle.facet_json_core.specs.Meaning.Reading.{IsRead, IsUnread}
 use Rattle.facet_json_core.proofs.Meaning.Sequences.ListSteps.{AtItems, at-event, ends-after, goes-on, at-spot, item-before, item-after, items-closed, at-lacks}
 use Rattle.facet_json.specs.Pointed.{item_node}

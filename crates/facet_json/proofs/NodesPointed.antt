@@ -17,7 +17,7 @@ use Rattle.facet_json_core.proofs.Meaning.Objects.MembersOnWalk.{AtMembers, obje
 use Rattle.facet_json_core.proofs.Meaning.Sequences.ListSteps.{array-begins}
 use Rattle.facet_json_core.proofs.Meaning.Walks.FirstEvents.{first_event, first-stands, first-passed, after-one}
 use Rattle.facet_json_tree.specs.Pointer.{index}
-use Rattle.facet_json_facet.specs.Finding.{from_key, StandsAmong, FindsKey, FindsFirst, FindsNone, LacksMembers}
+use Rattle.facet_json_core.specs.Finding.{from_key, StandsAmong, FindsKey, FindsFirst, FindsNone, LacksMembers}
 use Rattle.facet_json.specs.Pointed.{first_value, item_node, child_node, LacksNode}
 use Rattle.facet_json.specs.Inner.Pointing.{begun_by, FindsIt, FindsChild, FindsItem, LacksItems}
 use Rattle.facet_json.specs.declared.pointer.Begun.TheVariants as begun

@@ -10,7 +10,7 @@ use Rattle.facet_json_token.specs.Cut.{past_gap}
 use Rattle.facet_json_grammar.specs.Language.{lenient}
 use Rattle.facet_json_grammar.specs.Node.{Node}
 use Rattle.facet_json_grammar.specs.UnreadLaws.{RefusalWithin}
-use Rattle.facet_json_typed.specs.Inputs.{BeginsWithDocument, BeginsWithRunTo, IsReadFrom, IsUnreadFrom, IsToldOf}
+use Rattle.facet_json_facet.specs.Inputs.{BeginsWithDocument, BeginsWithRunTo, IsReadFrom, IsUnreadFrom, IsToldOf}
 
 -- An input, and the offset up to which it was read.
 pub record Documents : Type 0 where

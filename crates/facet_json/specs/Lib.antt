@@ -27,8 +27,8 @@ pub use Rattle.facet_format.specs.Event
 pub use Rattle.facet_json_grammar.specs.EventLaws
 pub use Rattle.facet_json_token.specs.Fault
 pub use Rattle.facet_json_token.specs.Faults
-pub use Rattle.facet_json_typed.specs.Fields
-pub use Rattle.facet_json_facet.specs.Finding
+pub use Rattle.facet_json_fields.specs.Fields
+pub use Rattle.facet_json_core.specs.Finding
 pub use Rattle.facet_format.specs.Laws as FormatLaws
 pub use Rattle.facet_format.specs.Views as FormatViews
 pub use Rattle.facet_json_document.specs.Formatted
@@ -38,7 +38,7 @@ pub use Rattle.facet_json_token.specs.GapLen
 pub use Rattle.facet_json_grammar.specs.Headline
 pub use Rattle.facet_format.specs.HeldText
 pub mod Inner
-pub use Rattle.facet_json_typed.specs.Inputs
+pub use Rattle.facet_json_facet.specs.Inputs
 pub use Rattle.facet_format.specs.Kept
 pub use Rattle.facet_json_grammar.specs.Language
 pub use Rattle.facet_format.specs.Line
@@ -138,4 +138,4 @@ pub use Rattle.facet_json_tree.specs.Views
 pub use Rattle.facet_json_grammar.specs.Walk
 pub use Rattle.facet_json_grammar.specs.Within
 pub use Rattle.facet_json_tree.specs.Write
-pub use Rattle.facet_json_typed.specs.Written
+pub use Rattle.facet_json_fields.specs.Written

@@ -11,7 +11,7 @@ use Rattle.facet_json_grammar.specs.Walk.{walk}
 use Rattle.facet_json_core.specs.Reading.{LacksMemory}
 use Rattle.facet_json_core.specs.Meaning.Nodes.{StandsBefore, StandsAfter}
 use Rattle.facet_json_tree.specs.Pointer.{IsPointer, index}
-use Rattle.facet_json_facet.specs.Finding.{from_key}
+use Rattle.facet_json_core.specs.Finding.{from_key}
 
 -- ---- what a pointer names
 

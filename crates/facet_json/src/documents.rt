@@ -7,10 +7,9 @@ ghost use Rattle.facet_json_grammar.specs.UnreadLaws.{RefusalWithin};
 ghost use Rattle.facet_json.specs.Documents.{rest, moved as moved_refusal, NextGives};
 
 use facet_format::{DeserializeError, Span};
-use facet_json_facet::Facet;
+use facet_json_facet::{Facet, from_slice_prefix};
 use facet_json_token::Mode;
 use facet_json_token::cutting::skip_gap;
-use facet_json_typed::from_slice_prefix;
 use std::alloc::Global;
 use std::marker::{Model, PhantomData};
 

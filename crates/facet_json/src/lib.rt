@@ -35,7 +35,12 @@ pub use facet_json_document::{
     Document, FormatOptions, Indent, Items, Members, Value, ValueKind, check, check_jsonc,
     check_strict, check_whole, format_text, format_text_strict,
 };
-pub use facet_json_facet::{Facet, ReadResult};
+pub use facet_json_facet::{
+    Facet, ReadResult, from_slice, from_slice_borrowed, from_slice_borrowed_jsonc,
+    from_slice_jsonc, from_slice_prefix, from_slice_strict, from_str, from_str_borrowed,
+    from_str_borrowed_jsonc, from_str_jsonc, from_str_prefix, from_str_strict,
+};
+pub use facet_json_fields::{Done, Fields, LentFields, Maybe, Need, read_fields, write_fields};
 pub use facet_json_parser::JsonParser;
 pub use facet_json_reader::{MaterializedToken, TokenKind};
 pub use facet_json_serializer::{
@@ -45,12 +50,6 @@ pub use facet_json_tree::{
     NotStored, OwnedDecimal, PointerError, Tree, WriteError, read_tree, tree_from_slice,
     tree_from_slice_jsonc, tree_from_slice_strict, tree_from_slice_within,
     tree_from_slice_within_jsonc, tree_from_slice_within_strict, write_tree,
-};
-pub use facet_json_typed::{
-    Done, Fields, LentFields, Maybe, Need, from_slice, from_slice_borrowed,
-    from_slice_borrowed_jsonc, from_slice_jsonc, from_slice_prefix, from_slice_strict, from_str,
-    from_str_borrowed, from_str_borrowed_jsonc, from_str_jsonc, from_str_prefix, from_str_strict,
-    read_fields, write_fields,
 };
 pub use lines::{Line, LineError, Lines};
 pub use writers::{to_writer_std, to_writer_std_pretty, to_writer_std_with_options};

@@ -14,15 +14,15 @@ ghost use Rattle.facet_json_tree.specs.Inner.PointerParts.{unescaped};
 ghost use Rattle.facet_json_tree.specs.Pointer.{IsPointer, index};
 ghost use Rattle.facet_json_tree.specs.PointerViews.{RefusesPointer};
 ghost use Rattle.facet_json_tree.specs.Same.{same_bytes};
-ghost use Rattle.facet_json_facet.specs.Finding.{FindsKey, LacksMembers};
+ghost use Rattle.facet_json_core.specs.Finding.{FindsKey, LacksMembers};
 ghost use Rattle.facet_json.specs.Inner.Pointing.{begun_by, FindsChild, FindsItem, LacksItems, less_one, zero_is};
 ghost use Rattle.facet_json.specs.Pointed.{FindsNamed, FindsPointed, LacksNode, LacksPointed};
 ghost use Rattle.facet_json.specs.PointedViews.{IfPointer, IfRead};
 
 use crate::find_error::FindError;
 use facet_format::{DeserializeError, FormatParser, ParseEvent, ParseEventKind};
-use facet_json_core::mismatch;
-use facet_json_facet::steps::{next_name, next_of_value, pass_value, take_end};
+use facet_json_core::steps::{next_name, pass_value, take_end};
+use facet_json_core::{mismatch, next_of_value};
 use facet_json_parser::JsonParser;
 use facet_json_tree::pointer::{check, first_token, index_of, stands_for};
 use std::borrow::CowStr;

@@ -8,7 +8,7 @@ ghost use Rattle.facet_json_serializer.specs.OptionsViews.{options_of};
 ghost use Rattle.facet_json_serializer.specs.Serializer.{out_of_memory};
 ghost use Rattle.facet_json_serializer.specs.Views.{write_refusal_of};
 ghost use Rattle.facet_json_tree.specs.Write.{pretty_options, IsReadable};
-ghost use Rattle.facet_json_typed.specs.Inputs.{ComesBack};
+ghost use Rattle.facet_json_facet.specs.Inputs.{ComesBack};
 
 use facet_json_facet::Facet;
 use facet_json_serializer::{JsonSerializeError, JsonSerializer, SerializeOptions};

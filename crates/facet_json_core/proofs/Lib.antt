@@ -2,6 +2,7 @@ pub mod CallsInOrder
 pub mod Cuts
 pub mod DocumentFromRoot
 pub mod DocumentPassed
+pub mod KeysFound
 pub mod Meaning
 pub mod Misplaced
 pub mod Names
@@ -10,6 +11,7 @@ pub mod Passing
 pub mod PrefixBreaksOff
 pub mod Refusing
 pub mod StrictFromRoot
+pub mod TakenNext
 pub mod ValueOrBreak
 pub mod ValuePasses
 pub mod WalkTells

@@ -96,9 +96,7 @@ lacks-tells passes (inl none) = without_memory passes.free none
 lacks-tells passes (inr so) = event-tells passes so
 
 -- An empty span at the end of the last token that was read.
-pub told-ended : (last : Span) (seen made : RustSpan) (end : ℕ) → answer_of_span (Some seen) ≡ spans (Some last) →
+pub told-ended : (last : Span) (seen made : RustSpan) (end : ℕ) → span_of_rust seen ≡ last →
     end ≡ min (seen.offset + seen.len) (2 ^ 64 - 1) → made.offset ≡ end → made.len ≡ 0 →
     refusal_at (unexpected_eof (codes "value")) (span_of_rust made) ≡ no_value_after last
-told-ended last seen made end told ends offset len =
-    let same : span_of_rust seen ≡ last = cc in
-    rw (← same, offset, ends, len) refl
+told-ended last seen made end same ends offset len = rw (← same, offset, ends, len) refl

@@ -26,8 +26,10 @@ pub use Rattle.facet_json_grammar.specs.ParserLaws
 pub use Rattle.facet_json_grammar.specs.CallLaws
 pub use Rattle.facet_json_grammar.specs.SkipLaws
 pub use Rattle.facet_json_grammar.specs.Headline
+pub mod Calls
 pub mod ErrorKind
 pub mod ErrorViews
+pub mod Finding
 pub mod Meaning
 pub mod Reading
 pub mod Refusing

@@ -12,7 +12,7 @@ pub mod StrictTexts
 pub mod Borrowed
 pub mod Optional
 pub mod Peeking
-pub mod Inner
+pub mod Taking
 pub mod Lists
 pub mod ListSteps
 pub mod Shapes

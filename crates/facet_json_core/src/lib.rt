@@ -1,7 +1,8 @@
 //! The parser of JSON documents by events, `JsonParser` (RFC 8259, alone or with lenient readings, and JSONC comments), and `drive`,
 //! which makes a list of its calls; the serializer, `JsonSerializer`, which writes call by call, and its options; `transcode`, which passes
 //! a value from the one to the other; `RawJson`, JSON text that is kept as it stands; and `JsonError`, the error that a person reads, with
-//! its `Report`. `laws` has what shows the definitions of documents, parsers and serializers right.
+//! its `Report`. `steps` has what readers by hand are made of, and `laws` what shows the definitions of documents, parsers and serializers
+//! right.
 #![tactic(auto)]
 
 mod error;
@@ -12,6 +13,7 @@ mod raw;
 mod refusals;
 mod report;
 mod script;
+pub mod steps;
 mod text;
 mod transcode_error;
 mod value;
@@ -28,4 +30,4 @@ pub use raw::RawJson;
 pub use report::Report;
 pub use script::{Answer, Call, drive};
 pub use transcode_error::TranscodeError;
-pub use value::{ended, mismatch, next_of_value, pass_end, transcode};
+pub use value::{ended, last_span, mismatch, next_of_value, pass_end, transcode};

@@ -4,7 +4,7 @@ ghost use Rattle.std.specs.Prelude.{◌≡◌, ◌⊎◌, ◌≤◌, ◌<◌, �
 ghost use Rattle.std.specs.Prelude.{MatchResult, ◌≢◌, Ok, OnErr};
 ghost use Rattle.facet_format.specs.Complaint.{no_memory};
 ghost use Rattle.facet_format.specs.Event.{Passed};
-ghost use Rattle.facet_format.specs.Views.{event_kind_of, event_of, refusal_of, scalar_value_of};
+ghost use Rattle.facet_format.specs.Views.{event_kind_of, event_of, refusal_of, scalar_value_of, span_of};
 ghost use Rattle.facet_json_token.specs.Gap.{Mode as SpecMode, plain};
 ghost use Rattle.facet_json_grammar.specs.Node.{Node};
 ghost use Rattle.facet_json_grammar.specs.Tree.{Tree as SpecTree};
@@ -19,6 +19,8 @@ ghost use Rattle.facet_json_serializer.specs.TreeCalls.{with_tree};
 ghost use Rattle.facet_json_serializer.specs.Views.{call_answer_of};
 ghost use Rattle.facet_json_core.specs.Reading.{GivesNone};
 ghost use Rattle.facet_json_core.specs.Refusing.{TellsRefusal, mismatch_of, name_of_event, name_of_scalar, no_value_after};
+ghost use Rattle.facet_json_core.specs.Meaning.OneValue.{PassesByKind};
+ghost use Rattle.facet_json_core.specs.Meaning.Passing.{LacksAlone, WalksPast};
 ghost use Rattle.facet_json_core.specs.Told.{begins};
 ghost use Rattle.facet_json_core.specs.Transcode.{serializer_call_of, containers_after as spec_depth_after, IsWritten, BeginsNone};
 ghost use Rattle.facet_json_core.specs.TranscodeViews.{IsUnwritten, TranscodeLacksMemory, IsTranscodeRefused, ErrorWithin, IsMisplaced};
@@ -129,7 +131,7 @@ fn next_within<'t, 'de>(
     depth: usize,
 ) -> Result<ParseEvent<'de>, DeserializeError<'t>>
     ensures onward { GoesOn parser.old parser.new }
-    ensures gave { IfOk result (λ e. PassesNext parser.old (event_of e) parser.new) }
+    ensures passed { IfOk result (λ e. PassesNext parser.old (event_of e) parser.new) }
     ensures shorter { OnOk result (ahead parser.new < ahead parser.old) }
     ensures begun { IfOk result (λ e. depth ≡ 0 → begins (event_of e).kind ≡ true) }
     ensures refused { parser.old.cursor.refusal ≡ None
@@ -206,13 +208,16 @@ pub fn next_of_value<'t, 'de>(
     parser: &mut JsonParser<'de>,
 ) -> Result<ParseEvent<'de>, DeserializeError<'t>>
     ensures onward { GoesOn parser.old parser.new }
-    ensures gave { IfOk result (λ e. PassesNext parser.old (event_of e) parser.new) }
+    ensures shorter { OnOk result (ahead parser.new < ahead parser.old) }
+    ensures passed { IfOk result (λ e. PassesNext parser.old (event_of e) parser.new) }
     ensures steps { IfOk result (λ e. IsStep StandsAt parser.old next (event (Ok (Some (event_of e)))) parser.new) }
     ensures moves { IfOk result (λ e. Moves parser.old next (event (Ok (Some (event_of e)))) parser.new) }
-    ensures shorter { OnOk result (ahead parser.new < ahead parser.old) }
+    ensures walks { IfOk result (λ e. WalksPast parser.old (event_of e) parser.new) }
+    ensures by_kind { IfOk result (λ e. PassesByKind (event_of e).kind parser.old parser.new) }
     ensures event_within { IfOk result (λ e. stop (event_of e).span ≤ length parser.new.buffer) }
     ensures refused { parser.old.cursor.refusal ≡ None → IfErr result (λ e. GivesNone parser.old (refusal_of e)) }
-    ensures within { IfErr result (λ e. IfSome e.span (λ s. s.offset + s.len ≤ length parser.new.buffer)) }
+    ensures lacks { IfErr result (λ e. LacksAlone parser.old (refusal_of e)) }
+    ensures within { IfErr result (λ e. RefusalWithin parser.new.buffer (refusal_of e)) }
     ensures tells { IfErr result (λ e. TellsRefusal parser.old parser.new (refusal_of e)) }
 {
     match parser.next_event()? {
@@ -221,12 +226,25 @@ pub fn next_of_value<'t, 'de>(
     }
 }
 
+/// The span of the last token that the parser passed, bytes of the input: where a refusal of what was read stands.
+///
+/// ```text
+/// next_of_value(&mut parser)?    of [true]: the bracket
+/// last_span(&parser)             0+1
+/// ```
+pub fn last_span(parser: &JsonParser<'_>) -> Span
+    ensures within { stop (span_of result) ≤ length parser.now.buffer }
+    ensures told { span_of result ≡ last_read parser.now }
+{
+    parser.current_span().unwrap()
+}
+
 /// The refusal of a value where the parser is at the end.
 pub fn ended<'t>(parser: &JsonParser<'_>) -> DeserializeError<'t>
     ensures within { IfSome result.span (λ s. s.offset + s.len ≤ length parser.now.buffer) }
     ensures told { refusal_of result ≡ no_value_after (last_read parser.now) }
 {
-    let end = parser.current_span().unwrap().end();
+    let end = last_span(parser).end();
     DeserializeError {
         kind: DeserializeErrorKind::UnexpectedEof { expected: "value" },
         span: Some(Span::new(end, 0)),

@@ -18,6 +18,7 @@ ghost use Rattle.facet_json_grammar.specs.UnreadLaws.{RefusalWithin};
 ghost use Rattle.facet_json_core.specs.Reading.{LacksMemory};
 
 use facet_format::{DeserializeError, FormatParser, ParseError, Span};
+use facet_json_core::last_span;
 use facet_json_parser::JsonParser;
 use facet_json_reader::{Contexts, Language, Place, Reader, Stage};
 use facet_json_token::Mode;
@@ -170,12 +171,4 @@ fn pass_behind<'t>(
         Ok(_) => Ok(()),
         Err(refused) => Err(DeserializeError::from(ParseError::from(refused))),
     }
-}
-
-/// The span of the last token that was passed.
-fn last_span(parser: &JsonParser<'_>) -> Span
-    ensures within { stop (span_of result) ≤ length parser.now.buffer }
-    ensures told { span_of result ≡ last_read parser.now }
-{
-    parser.current_span().unwrap()
 }

@@ -1,5 +1,7 @@
-pub mod KeysFound
+pub mod FirstRead
 pub mod ListCalls
 pub mod MapCalls
+pub mod RootComes
+pub mod RunBegins
 pub mod ScalarsOfRust
-pub mod TakenNext
+pub mod StrictRootComes

@@ -1,3 +1,2 @@
-pub mod Calls
-pub mod Finding
 pub mod Inner
+pub mod Inputs

@@ -4,8 +4,8 @@ ghost use Rattle.std.specs.Prelude.{◌≡◌, ◌<◌, true, false, cond, None,
 ghost use Rattle.facet_json_serializer.specs.Serializer.{out_of_memory};
 ghost use Rattle.facet_json_serializer.specs.Views.{write_refusal_of as writing_refusal_of};
 ghost use Rattle.facet_json_tree.specs.Write.{HasWritten, IsOfRust};
-ghost use Rattle.facet_json_facet.specs.Calls.{refusal_of, ahead, RefusalWithin, TellsRefusal, KeepsOn, PassesValue, IsRead, IsUnread};
-ghost use Rattle.facet_json_facet.specs.Calls.{HasDocument, EndsStrictly};
+ghost use Rattle.facet_json_core.specs.Calls.{refusal_of, ahead, RefusalWithin, TellsRefusal, KeepsOn, PassesValue, IsRead, IsUnread};
+ghost use Rattle.facet_json_core.specs.Calls.{HasDocument, EndsStrictly};
 
 use facet_format::DeserializeError;
 use facet_json_parser::JsonParser;

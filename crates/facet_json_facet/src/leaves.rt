@@ -6,13 +6,14 @@ ghost use Rattle.facet_format.specs.Views.{event_of, scalar_value_of};
 ghost use Rattle.facet_json_serializer.specs.Serializer.{scalar_tree};
 ghost use Rattle.facet_json_tree.specs.Write.{IsOfRust};
 ghost use Rattle.facet_json_core.specs.Meaning.Readings.{taken, leaf};
-ghost use Rattle.facet_json_facet.specs.Calls.{refusal_of, ahead, RefusalWithin, TellsRefusal, KeepsOn, PassesValue, IsRead, IsUnread};
-ghost use Rattle.facet_json_facet.specs.Calls.{HasDocument, EndsStrictly};
-ghost use Rattle.facet_json_facet.specs.Inner.Taking.{TakesNext, IsTakenOf};
+ghost use Rattle.facet_json_core.specs.Calls.{refusal_of, ahead, RefusalWithin, TellsRefusal, KeepsOn, PassesValue, IsRead, IsUnread};
+ghost use Rattle.facet_json_core.specs.Calls.{HasDocument, EndsStrictly};
+ghost use Rattle.facet_json_core.specs.Meaning.Taking.{TakesNext};
+ghost use Rattle.facet_json_facet.specs.Inner.Taking.{IsTakenOf};
 
 use crate::facet::Facet;
-use crate::steps::next::next_of_value;
 use facet_format::{DeserializeError, FormatSerializer, ParseEvent, ScalarValue};
+use facet_json_core::next_of_value;
 use facet_json_parser::JsonParser;
 use facet_json_serializer::{JsonSerializeError, JsonSerializer};
 use std::alloc::Global;

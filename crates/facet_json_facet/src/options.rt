@@ -3,11 +3,11 @@
 ghost use Rattle.std.specs.Prelude.{◌≡◌, ◌<◌, false, cond, None, IfOk, IfErr, OnOk};
 ghost use Rattle.std.specs.Option.{option_map, IfSome};
 ghost use Rattle.facet_json_core.specs.Meaning.Optional.{optional};
-ghost use Rattle.facet_json_facet.specs.Calls.{refusal_of, ahead, RefusalWithin, TellsRefusal, KeepsOn, PassesValue, IsRead, IsUnread};
+ghost use Rattle.facet_json_core.specs.Calls.{refusal_of, ahead, RefusalWithin, TellsRefusal, KeepsOn, PassesValue, IsRead, IsUnread};
 
 use crate::facet::{Facet, value_in};
-use crate::steps::next::take_null;
 use facet_format::{DeserializeError, FormatSerializer, ScalarValue};
+use facet_json_core::steps::take_null;
 use facet_json_parser::JsonParser;
 use facet_json_serializer::{JsonSerializeError, JsonSerializer};
 use std::alloc::Global;

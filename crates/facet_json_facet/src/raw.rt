@@ -4,8 +4,8 @@ ghost use Rattle.std.specs.Prelude.{◌≡◌, ◌<◌, true, false, None, IfOk,
 ghost use Rattle.facet_format.specs.Complaint.{no_memory};
 ghost use Rattle.facet_format.specs.Event.{bytes_of, owned, is_owned};
 ghost use Rattle.facet_json_core.specs.Meaning.Readings.{raw_of};
-ghost use Rattle.facet_json_facet.specs.Calls.{refusal_of, ahead, RefusalWithin, TellsRefusal, KeepsOn, PassesValue, IsRead, IsUnread};
-ghost use Rattle.facet_json_facet.specs.Calls.{HasDocument, EndsStrictly};
+ghost use Rattle.facet_json_core.specs.Calls.{refusal_of, ahead, RefusalWithin, TellsRefusal, KeepsOn, PassesValue, IsRead, IsUnread};
+ghost use Rattle.facet_json_core.specs.Calls.{HasDocument, EndsStrictly};
 
 use crate::facet::Facet;
 use facet_format::{DeserializeError, FormatParser, FormatSerializer};

@@ -4,17 +4,17 @@ ghost use Rattle.std.specs.Prelude.{◌≡◌, ◌<◌, IfOk, IfErr, OnOk, None,
 ghost use Rattle.facet_format.specs.Complaint.{no_memory, refusal_at};
 ghost use Rattle.facet_format.specs.Views.{event_of, span_of};
 ghost use Rattle.facet_json_core.specs.Meaning.Borrowed.{borrowed_text, lent, made_text, IsNotLent};
-ghost use Rattle.facet_json_facet.specs.Calls.{refusal_of, ahead, RefusalWithin, TellsRefusal, KeepsOn, PassesValue, IsRead, IsUnread};
-ghost use Rattle.facet_json_facet.specs.Calls.{HasDocument, EndsStrictly};
+ghost use Rattle.facet_json_core.specs.Calls.{refusal_of, ahead, RefusalWithin, TellsRefusal, KeepsOn, PassesValue, IsRead, IsUnread};
+ghost use Rattle.facet_json_core.specs.Calls.{HasDocument, EndsStrictly};
 
 use crate::facet::Facet;
 use crate::leaves::Leaf;
-use crate::steps::next::{next_of_value, take_next};
 use facet_format::{
     DeserializeError, DeserializeErrorKind, FormatSerializer, ParseEvent, ParseEventKind,
     ScalarValue, Span,
 };
-use facet_json_core::mismatch;
+use facet_json_core::steps::take_next;
+use facet_json_core::{mismatch, next_of_value};
 use facet_json_parser::JsonParser;
 use facet_json_serializer::{JsonSerializeError, JsonSerializer};
 use std::alloc::Global;

@@ -1,9 +1,9 @@
 //! Truth values: `true` and `false`.
 
 use crate::leaves::Leaf;
-use crate::steps::next::take_next;
 use facet_format::{DeserializeError, ParseEvent, ParseEventKind, ScalarValue};
 use facet_json_core::mismatch;
+use facet_json_core::steps::take_next;
 use facet_json_parser::JsonParser;
 use std::alloc::Global;
 

@@ -8,11 +8,11 @@ ghost use Rattle.facet_json_serializer.specs.Serializer.{scalar_tree};
 ghost use Rattle.facet_json_core.specs.Meaning.Readings.{taken, whole_of};
 
 use crate::leaves::Leaf;
-use crate::steps::next::take_next;
 use facet_format::{
     DeserializeError, DeserializeErrorKind, ParseEvent, ParseEventKind, ScalarValue, Span,
 };
 use facet_json_core::mismatch;
+use facet_json_core::steps::take_next;
 use facet_json_parser::JsonParser;
 use facet_json_reader::Whole;
 use std::alloc::Global;

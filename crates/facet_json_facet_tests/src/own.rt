@@ -10,6 +10,7 @@ use crate::readers::By;
 use crate::rows::{Case, Told, expect};
 use crate::typed::expect_value;
 use facet_format::{DeserializeError, DeserializeErrorKind, FormatParser, Span};
+use facet_json_core::last_span;
 use facet_json_facet::Facet;
 use facet_json_parser::JsonParser;
 use facet_json_serializer::{JsonSerializeError, JsonSerializer};
@@ -105,14 +106,6 @@ fn too_much<'t>(span: Span) -> DeserializeError<'t>
         },
         span: Some(span),
     }
-}
-
-/// The span of the last token that was read.
-fn last_span(parser: &JsonParser<'_>) -> Span
-    ensures within { stop (span_of result) ≤ length parser.now.buffer }
-    ensures told { span_of result ≡ last_read parser.now }
-{
-    parser.current_span().unwrap()
 }
 
 /// What is no number of 16 bits.

@@ -6,7 +6,7 @@ use Rattle.facet_json_core.proofs.Meaning.Keeping.{keeps-then}
 use Rattle.facet_json_core.proofs.Meaning.Refusals.{keeps-there}
 use Rattle.facet_json_core.proofs.Meaning.Walks.NextOnWalk.{goes-keeps}
 use Rattle.facet_json_tree.specs.Pointer.{index}
-use Rattle.facet_json_facet.proofs.TakenNext.{stays-put}
+use Rattle.facet_json_core.proofs.TakenNext.{stays-put}
 use Rattle.facet_json.proofs.ItemsPassed.{AreLeft, input-counts, left-all, left-less, left-found, left-none, left-unseen, left-unpassed}
 use Rattle.facet_json.proofs.pointer.find_item.Goals as goal
 

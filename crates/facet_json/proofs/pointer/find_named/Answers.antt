@@ -7,7 +7,7 @@ use Rattle.facet_format.specs.Views.{refusal_of}
 use Rattle.facet_json_core.proofs.Refusing.{comes-then, goes-there, tells-later}
 use Rattle.facet_json_core.proofs.Meaning.Refusals.{keeps-there}
 use Rattle.facet_json_tree.specs.Inner.PointerParts.{unescaped}
-use Rattle.facet_json_facet.proofs.KeysFound.{search-begins, other-passed, key-found, none-found, no-key, no-value}
+use Rattle.facet_json_core.proofs.KeysFound.{search-begins, other-passed, key-found, none-found, no-key, no-value}
 use Rattle.facet_json.proofs.pointer.find_named.Goals as goal
 
 pub loop-key-init : goal.loop-key-init

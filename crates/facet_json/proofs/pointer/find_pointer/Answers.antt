@@ -5,7 +5,7 @@ use Rattle.facet_json_tree.specs.Pointer.{IsPointer}
 use Rattle.facet_json_tree.specs.PointerViews.{IsWrongAt}
 use Rattle.facet_json_tree.proofs.PointerRefusals.{refuses}
 use Rattle.facet_json_tree.proofs.PointerSplit.{is_pointer}
-use Rattle.facet_json_facet.proofs.TakenNext.{stays-put}
+use Rattle.facet_json_core.proofs.TakenNext.{stays-put}
 use Rattle.facet_json.proofs.pointer.find_pointer.Goals as goal
 
 pub returns-in_err-check-clause-refuses : goal.returns-in_err-check-clause-refuses

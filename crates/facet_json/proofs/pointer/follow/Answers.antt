@@ -8,7 +8,7 @@ use Rattle.facet_json_core.proofs.Meaning.Refusals.{keeps-there}
 use Rattle.facet_json_core.proofs.Meaning.Walks.NextOnWalk.{goes-keeps}
 use Rattle.facet_json_tree.specs.Inner.PointerParts.{before_slash}
 use Rattle.facet_json_tree.proofs.PointerSteps.{next-within}
-use Rattle.facet_json_facet.proofs.TakenNext.{stays-put}
+use Rattle.facet_json_core.proofs.TakenNext.{stays-put}
 use Rattle.facet_json.proofs.PointersFollowed.{AreFollowed, finds-same, followed-none, followed-more, followed-past, followed-lacks, followed-all}
 use Rattle.facet_json.proofs.pointer.follow.Goals as goal
 

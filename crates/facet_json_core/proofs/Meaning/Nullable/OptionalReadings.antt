@@ -9,7 +9,7 @@ use Rattle.facet_json_grammar.specs.Node.{Node}
 use Rattle.facet_json_grammar.specs.Now.{Now}
 use Rattle.facet_json_core.specs.Meaning.Nodes.{StandsBefore, StandsAfter}
 use Rattle.facet_json_core.specs.Meaning.Optional.{is_null_node, is_null_event, optional}
-use Rattle.facet_json_core.specs.Meaning.Inner.Taking.{Takes, StaysThere, StaysBefore}
+use Rattle.facet_json_core.specs.Meaning.Taking.{Takes, StaysThere, StaysBefore}
 use Rattle.facet_json_grammar.specs.Walk.{walk}
 use Rattle.facet_json_core.specs.Meaning.Reading.{IsRead, IsUnread}
 use Rattle.facet_json_core.proofs.Meaning.Walks.FirstEvents.{first_event, first-stands, null-first, null-one}

@@ -22,7 +22,7 @@ use Rattle.facet_json_core.specs.Meaning.Passing.{WalksPast, LacksAlone}
 use Rattle.facet_json_core.specs.Meaning.Reading.{IsRead, IsUnread}
 use Rattle.facet_json_core.specs.Meaning.Lists.{put_value, items_of, list_of}
 use Rattle.facet_json_core.specs.Meaning.ListSteps.{nodes_of, begins_list, ends_list, BeginsList, IsNoList}
-use Rattle.facet_json_core.specs.Meaning.Inner.Taking.{Takes, StaysThere, StaysBefore}
+use Rattle.facet_json_core.specs.Meaning.Taking.{Takes, StaysThere, StaysBefore}
 use Rattle.facet_json_core.proofs.Meaning.Walks.FirstEvents.{first_event, first-passed}
 use Rattle.facet_json_core.proofs.Meaning.WalkPlaces.{drop-get, drop-suc, drop-node}
 

@@ -6,7 +6,7 @@ use Rattle.facet_format.specs.Cursor.{at_spot, peeked_at}
 use Rattle.facet_json_grammar.specs.Future.{finished, events_before}
 use Rattle.facet_json_grammar.specs.Now.{Now, future_of}
 use Rattle.facet_json_parser.specs.Inner.Wanted.{NeverGives}
-use Rattle.facet_json_core.specs.Meaning.Inner.Taking.{Takes, StaysBefore}
+use Rattle.facet_json_core.specs.Meaning.Taking.{Takes, StaysBefore}
 use Rattle.facet_json_core.specs.Meaning.ListSteps.{ends_list}
 use Rattle.facet_json_core.specs.Meaning.OneValue.{LooksAhead}
 use Rattle.facet_json_core.specs.Meaning.Optional.{is_null_event}

@@ -9,4 +9,4 @@ returns-in_err-event-clause-refused c free =
     rw (p.1, p.2) (inl (c.in_err-event.ensures.refused free))
 
 pub returns-then-not-begins_value-clause-tells : goal.returns-then-not-begins_value-clause-tells
-returns-then-not-begins_value-clause-tells c = event-tells c.in_ok-event.ensures.gave (mismatch-about _ _ c.mismatch.ensures.told)
+returns-then-not-begins_value-clause-tells c = event-tells c.in_ok-event.ensures.passed (mismatch-about _ _ c.mismatch.ensures.told)

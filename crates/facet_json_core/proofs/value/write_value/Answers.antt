@@ -33,7 +33,7 @@ returns-in_err-event-clause-unwritten c w is free =
 pub returns-in_err-pass-clause-unwritten : goal.returns-in_err-pass-clause-unwritten
 returns-in_err-pass-clause-unwritten c w is free =
     let i = c.loop-event.invariant in
-    let gave = c.in_ok-event.ensures.gave in
+    let gave = c.in_ok-event.ensures.passed in
     let p = err_from_is_err_and c.from_residual-in_err-pass.result c.from_residual-in_err-pass.ensures.1 in
     let passed : Passed = record { event = event_of c.in_ok-event.event; last = gave.last } in
     rw (p.1, p.2)
@@ -42,7 +42,7 @@ returns-in_err-pass-clause-unwritten c w is free =
 pub returns-then-depth-eq0-clause-written : goal.returns-then-depth-eq0-clause-written
 returns-then-depth-eq0-clause-written c w is =
     let i = c.loop-event.invariant in
-    let gave = c.in_ok-event.ensures.gave in
+    let gave = c.in_ok-event.ensures.passed in
     let passed : Passed = record { event = event_of c.in_ok-event.event; last = gave.last } in
     written _ w _ _ _ c.if-depth-eq0.true
     (rw c.in_ok-depth.ensures (one-passed _ w _ _ _ (i.passing w is) passed _ _ _ gave.comes c.in_ok-pass.ensures refl))
@@ -50,7 +50,7 @@ returns-then-depth-eq0-clause-written c w is =
 pub loop-event-preserved : goal.loop-event-preserved
 loop-event-preserved c =
     let i = c.loop-event.invariant in
-    let gave = c.in_ok-event.ensures.gave in
+    let gave = c.in_ok-event.ensures.passed in
     let passed : Passed = record { event = event_of c.in_ok-event.event; last = gave.last } in
     record {
       same = c.next_within.ensures.onward.input.buffer ∙ i.same;
@@ -80,22 +80,22 @@ returns-in_err-event-clause-misplaced c p rest free comes none =
 pub returns-in_err-depth-clause-tells : goal.returns-in_err-depth-clause-tells
 returns-in_err-depth-clause-tells c =
     let p = err_from_is_err_and c.from_residual-in_err-depth.result c.from_residual-in_err-depth.ensures.1 in
-    rw (p.1, p.2) (without_memory c.in_ok-event.ensures.gave.free c.in_err-depth.ensures)
+    rw (p.1, p.2) (without_memory c.in_ok-event.ensures.passed.free c.in_err-depth.ensures)
 
 pub returns-in_err-depth-clause-misplaced : goal.returns-in_err-depth-clause-misplaced
 returns-in_err-depth-clause-misplaced c p rest free comes none =
     let i = c.loop-event.invariant in
     let zero = i.begun p rest comes none in
-    absurd (none-passed _ _ _ _ _ p rest zero (i.first zero).0 c.in_ok-event.ensures.gave c.in_ok-event.ensures.begun comes none)
+    absurd (none-passed _ _ _ _ _ p rest zero (i.first zero).0 c.in_ok-event.ensures.passed c.in_ok-event.ensures.begun comes none)
 
 pub returns-in_err-pass-clause-misplaced : goal.returns-in_err-pass-clause-misplaced
 returns-in_err-pass-clause-misplaced c p rest free comes none =
     let i = c.loop-event.invariant in
     let zero = i.begun p rest comes none in
-    absurd (none-passed _ _ _ _ _ p rest zero (i.first zero).0 c.in_ok-event.ensures.gave c.in_ok-event.ensures.begun comes none)
+    absurd (none-passed _ _ _ _ _ p rest zero (i.first zero).0 c.in_ok-event.ensures.passed c.in_ok-event.ensures.begun comes none)
 
 pub returns-then-depth-eq0-clause-misplaced : goal.returns-then-depth-eq0-clause-misplaced
 returns-then-depth-eq0-clause-misplaced c p rest free comes none =
     let i = c.loop-event.invariant in
     let zero = i.begun p rest comes none in
-    absurd (none-passed _ _ _ _ _ p rest zero (i.first zero).0 c.in_ok-event.ensures.gave c.in_ok-event.ensures.begun comes none)
+    absurd (none-passed _ _ _ _ _ p rest zero (i.first zero).0 c.in_ok-event.ensures.passed c.in_ok-event.ensures.begun comes none)

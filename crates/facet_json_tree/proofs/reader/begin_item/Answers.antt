@@ -19,7 +19,7 @@ returns-in_err-first-clause-refused c =
 
 pub returns-in_err-begun-clause-refused : goal.returns-in_err-begun-clause-refused
 returns-in_err-begun-clause-refused c =
-    let g = c.in_ok-first.ensures.gave in
+    let g = c.in_ok-first.ensures.passed in
     let p = err_from_is_err_and c.from_residual-in_err-begun.result c.from_residual-in_err-begun.ensures.1 in
     rw (p.1, p.2) (item-within c.args.depth _ _ _ (items-none _) none-leveled _ _ _ _ g.comes (not_list_end _ c.in_default.not-SequenceEnd)
     (refused-within c.args.depth _ _ _ _ c.in_err-begun.ensures.refused))
@@ -35,14 +35,14 @@ returns-in-SequenceEnd-clause-moves c = moves-next c.in_ok-first.ensures.steps
 
 pub returns-in-SequenceEnd-clause-begun : goal.returns-in-SequenceEnd-clause-begun
 returns-in-SequenceEnd-clause-begun c =
-    end-passed sequence_end _ _ _ c.in_ok-first.ensures.gave (ap event_kind_of c.in-SequenceEnd.is) c.in_ok-first.ensures.moves
+    end-passed sequence_end _ _ _ c.in_ok-first.ensures.passed (ap event_kind_of c.in-SequenceEnd.is) c.in_ok-first.ensures.moves
 
 pub returns : goal.returns
 returns c = record {
   keeps = goes-keeps _ _ c.next_of_value.ensures.onward;
   moves = moves-next c.in_ok-first.ensures.steps;
   shorter = c.in_ok-first.ensures.shorter;
-  begun = began _ _ _ _ _ c.in_ok-first.ensures.gave c.in_ok-begun.ensures.begun c.in_ok-first.ensures.moves;
+  begun = began _ _ _ _ _ c.in_ok-first.ensures.passed c.in_ok-begun.ensures.begun c.in_ok-first.ensures.moves;
   refused = tt;
   within = tt;
   tells = tt;
@@ -51,4 +51,4 @@ returns c = record {
 pub returns-in_err-begun-clause-tells : goal.returns-in_err-begun-clause-tells
 returns-in_err-begun-clause-tells c =
     let p = err_from_is_err_and c.from_residual-in_err-begun.result c.from_residual-in_err-begun.ensures.1 in
-    rw (p.1, p.2) (lacks-tells c.in_ok-first.ensures.gave c.in_err-begun.ensures.about)
+    rw (p.1, p.2) (lacks-tells c.in_ok-first.ensures.passed c.in_err-begun.ensures.about)

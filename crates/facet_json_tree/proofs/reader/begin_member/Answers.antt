@@ -20,7 +20,7 @@ returns-in_err-next_of_value-clause-refused c =
 
 pub returns-in_err-key-clause-refused : goal.returns-in_err-key-clause-refused
 returns-in_err-key-clause-refused c =
-    let g = c.in_ok-next_of_value.ensures.gave in
+    let g = c.in_ok-next_of_value.ensures.passed in
     let p = err_from_is_err_and c.from_residual-in_err-key.result c.from_residual-in_err-key.ensures.1 in
     rw (p.1, p.2) (elim c.in_err-key.ensures.refused [
       | inl lacks ↦ lacks-within lacks
@@ -29,7 +29,7 @@ returns-in_err-key-clause-refused c =
 
 pub returns-in_err-begin_value-in-Some-clause-refused : goal.returns-in_err-begin_value-in-Some-clause-refused
 returns-in_err-begin_value-in-Some-clause-refused c =
-    let g = c.in_ok-next_of_value.ensures.gave in
+    let g = c.in_ok-next_of_value.ensures.passed in
     let key = MatchOption-at_some _ _ _ c.in-Some.is c.in_ok-key.ensures.key in
     let p = err_from_is_err_and c.from_residual-in_err-begin_value-in-Some.result c.from_residual-in_err-begin_value-in-Some.ensures.1 in
     rw (p.1, p.2) (member-within c.args.depth _ _ _ (members-none _) none-leveled _ _ _ _ g.comes key.name key.is_key
@@ -53,7 +53,7 @@ returns-in-None-clause-moves c = moves-next c.in_ok-next_of_value.ensures.steps
 pub returns-in_err-key-clause-tells : goal.returns-in_err-key-clause-tells
 returns-in_err-key-clause-tells c =
     let p = err_from_is_err_and c.from_residual-in_err-key.result c.from_residual-in_err-key.ensures.1 in
-    rw (p.1, p.2) (lacks-tells c.in_ok-next_of_value.ensures.gave c.in_err-key.ensures.about)
+    rw (p.1, p.2) (lacks-tells c.in_ok-next_of_value.ensures.passed c.in_err-key.ensures.about)
 
 pub returns-in_err-begin_value-in-Some-clause-tells : goal.returns-in_err-begin_value-in-Some-clause-tells
 returns-in_err-begin_value-in-Some-clause-tells c =

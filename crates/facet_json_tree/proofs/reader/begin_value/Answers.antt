@@ -16,12 +16,12 @@ returns-clause-moves c =
 
 pub returns-clause-begun : goal.returns-clause-begun
 returns-clause-begun c =
-    IfOk-weaker c.begun.result _ _ (λ t h. began _ _ _ _ _ c.in_ok-next_of_value.ensures.gave h c.in_ok-next_of_value.ensures.moves) c.begun.ensures.begun
+    IfOk-weaker c.begun.result _ _ (λ t h. began _ _ _ _ _ c.in_ok-next_of_value.ensures.passed h c.in_ok-next_of_value.ensures.moves) c.begun.ensures.begun
 
 pub returns-clause-refused : goal.returns-clause-refused
 returns-clause-refused c free =
-    IfErr-weaker c.begun.result _ _ (λ e h. began-within c.args.depth _ _ _ _ _ c.in_ok-next_of_value.ensures.gave h) c.begun.ensures.refused
+    IfErr-weaker c.begun.result _ _ (λ e h. began-within c.args.depth _ _ _ _ _ c.in_ok-next_of_value.ensures.passed h) c.begun.ensures.refused
 
 pub returns-clause-tells : goal.returns-clause-tells
 returns-clause-tells c =
-    IfErr-weaker c.begun.result _ _ (λ e about. lacks-tells c.in_ok-next_of_value.ensures.gave about) c.begun.ensures.about
+    IfErr-weaker c.begun.result _ _ (λ e about. lacks-tells c.in_ok-next_of_value.ensures.passed about) c.begun.ensures.about

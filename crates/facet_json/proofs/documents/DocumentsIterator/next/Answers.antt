@@ -5,7 +5,7 @@ use Rattle.facet_json_token.specs.Gap.{plain}
 use Rattle.facet_json_grammar.specs.Language.{lenient}
 use Rattle.facet_json_grammar.specs.UnreadLaws.{RefusalWithin}
 use Rattle.facet_json.specs.Documents.{Documents, after, moved, nothing, read_up, refused, value}
-use Rattle.facet_json_typed.specs.Inputs.{BeginsWithDocument, BeginsWithRunTo, IsReadFrom, IsToldOf, IsUnreadFrom}
+use Rattle.facet_json_facet.specs.Inputs.{BeginsWithDocument, BeginsWithRunTo, IsReadFrom, IsToldOf, IsUnreadFrom}
 use Rattle.facet_json.proofs.documents.DocumentsIterator.next.Goals as goal
 
 pub returns-then-skip_gap-rest-clause-steps : goal.returns-then-skip_gap-rest-clause-steps

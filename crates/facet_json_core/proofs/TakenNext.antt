@@ -1,0 +1,31 @@
+-- What is wanted and passed is passed as an event is.
+use Rattle.std.proofs.Common.{◌≡◌, Option, Some, None, Ok, refl, arith}
+use Rattle.std.specs.Prelude.{MatchOption}
+use Rattle.facet_format.specs.Cursor.{event}
+use Rattle.facet_format.specs.Event.{Event}
+use Rattle.facet_json_grammar.specs.Now.{Now, GoesOn}
+use Rattle.facet_json_parser.specs.Inner.Wanted.{PassesWanted}
+use Rattle.facet_json_core.proofs.Meaning.OneValue.EventsPassed.{next-passes_by_kind}
+use Rattle.facet_json_core.proofs.Meaning.Walks.NextOnWalk.{answer-walks}
+use Rattle.facet_json_core.specs.Meaning.Taking.{TakesNext}
+
+pub wanted-takes : {A : Type 0} (given : A → Event) (old new : Now) (o : Option A) →
+    MatchOption o (new ≡ old) (λ a. PassesWanted old (given a) new) → MatchOption o (new ≡ old) (λ a. TakesNext old (given a) new)
+wanted-takes given old new None same = same
+wanted-takes given old new (Some a) is = record {
+  onward = is.onward;
+  shorter = is.shorter;
+  passed = is.next;
+  walks = answer-walks old new (given a) (event (Ok (Some (given a)))) refl is.steps;
+  by_kind = next-passes_by_kind old new (given a) is.moves;
+  within = is.within;
+}
+
+-- A parser that stands where it stood goes on.
+pub stays-put : (now : Now) → GoesOn now now
+stays-put now = record {
+  input = record { buffer = refl; language = refl };
+  points = record { kept = refl; counter = refl };
+  onward = omega arith;
+  by_calls = λ first led. led;
+}

@@ -1,2 +1,0 @@
--- Definitions that the contracts of private functions cite.
-pub mod Taking

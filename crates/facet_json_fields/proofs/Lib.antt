@@ -1,0 +1,4 @@
+pub mod FieldCells
+pub mod FieldSteps
+pub mod MemberCalls
+pub mod NamesCompared

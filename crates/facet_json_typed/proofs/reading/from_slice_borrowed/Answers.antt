@@ -1,4 +1,0 @@
-use Rattle.facet_json_typed.proofs.reading.from_slice_borrowed.Goals as goal
-
-pub returns : goal.returns
-returns g c = c.first_value.ensures.value _ _ c.new.ensures
