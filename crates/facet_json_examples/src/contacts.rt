@@ -1,10 +1,13 @@
 //! A struct whose texts stand in the input: nothing is copied.
 
 use facet_json::{
-    DeserializeError, Done, Facet, JsonParser, JsonSerializeError, JsonSerializer, Need,
-    read_fields, write_fields,
+    Done, Facet, JsonParser, JsonSerializeError, JsonSerializer, Need, ReadResult, read_fields,
+    write_fields,
 };
 use std::alloc::Global;
+
+/// The names of a contact's fields.
+const NAMES: [&str; 3] = ["id", "name", "email"];
 
 /// Whom to write to, as `{"id":7,"name":"Ann","email":"a@b.example"}`. The input, which lends the texts, lives for `'de`:
 /// `from_slice_borrowed` reads it, where neither text holds an escape.
@@ -29,35 +32,19 @@ impl<'de> Facet<'de> for Contact<'de> {
 
     ghost shape = { contact };
 
-    fn read_owned<'t>(
-        alloc: Global,
-        parser: &mut JsonParser<'de>,
-    ) -> Result<Contact<'de>, DeserializeError<'t>> {
-        let Need(id, Need(name, Need(email, Done))) = read_fields(
-            alloc,
-            parser,
-            false,
-            &["id", "name", "email"],
-        )?;
+    fn read_owned<'t>(alloc: Global, parser: &mut JsonParser<'de>) -> ReadResult<'t, Self> {
+        let Need(id, Need(name, Need(email, Done))) = read_fields(alloc, parser, false, &NAMES)?;
         Ok(Contact { id, name, email })
     }
 
-    fn read<'t>(
-        alloc: Global,
-        parser: &mut JsonParser<'de>,
-    ) -> Result<Contact<'de>, DeserializeError<'t>> {
-        let Need(id, Need(name, Need(email, Done))) = read_fields(
-            alloc,
-            parser,
-            true,
-            &["id", "name", "email"],
-        )?;
+    fn read<'t>(alloc: Global, parser: &mut JsonParser<'de>) -> ReadResult<'t, Self> {
+        let Need(id, Need(name, Need(email, Done))) = read_fields(alloc, parser, true, &NAMES)?;
         Ok(Contact { id, name, email })
     }
 
     fn write(&self, serializer: &mut JsonSerializer<'_>) -> Result<(), JsonSerializeError> {
         let fields = Need(&self.id, Need(&self.name, Need(&self.email, Done)));
-        write_fields(serializer, &["id", "name", "email"], &fields)
+        write_fields(serializer, &NAMES, &fields)
     }
 
     ghost laws = { contact-laws };

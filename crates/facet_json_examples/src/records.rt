@@ -52,6 +52,9 @@ pub fn person_in<'t>(alloc: Global, input: &[u8]) -> Result<Person, DeserializeE
     from_slice(alloc, input)
 }
 
+/// The names of a response's fields.
+const RESPONSE: [&str; 2] = ["status", "data"];
+
 /// A response, as `{"status":200,"data":[1,2]}`.
 #[derive(Drop)]
 pub struct Response<T> {
@@ -72,35 +75,19 @@ impl<'de, T: Facet<'de>> Facet<'de> for Response<T> {
 
     ghost shape = { response T.shape };
 
-    fn read_owned<'t>(
-        alloc: Global,
-        parser: &mut JsonParser<'de>,
-    ) -> Result<Response<T>, DeserializeError<'t>> {
-        let Need(status, Need(payload, Done)) = read_fields(
-            alloc,
-            parser,
-            false,
-            &["status", "data"],
-        )?;
+    fn read_owned<'t>(alloc: Global, parser: &mut JsonParser<'de>) -> ReadResult<'t, Self> {
+        let Need(status, Need(payload, Done)) = read_fields(alloc, parser, false, &RESPONSE)?;
         Ok(Response { status, payload })
     }
 
-    fn read<'t>(
-        alloc: Global,
-        parser: &mut JsonParser<'de>,
-    ) -> Result<Response<T>, DeserializeError<'t>> {
-        let Need(status, Need(payload, Done)) = read_fields(
-            alloc,
-            parser,
-            true,
-            &["status", "data"],
-        )?;
+    fn read<'t>(alloc: Global, parser: &mut JsonParser<'de>) -> ReadResult<'t, Self> {
+        let Need(status, Need(payload, Done)) = read_fields(alloc, parser, true, &RESPONSE)?;
         Ok(Response { status, payload })
     }
 
     fn write(&self, serializer: &mut JsonSerializer<'_>) -> Result<(), JsonSerializeError> {
         let fields = Need(&self.status, Need(&self.payload, Done));
-        write_fields(serializer, &["status", "data"], &fields)
+        write_fields(serializer, &RESPONSE, &fields)
     }
 
     ghost laws = { response-laws T.laws };
