@@ -82,6 +82,12 @@ past_gap-here mode buffer at b h s e =
 pub no_space : (b : ℕ) → (b ≡ space → ⊥) → (b ≡ tab → ⊥) → (b ≡ line_feed → ⊥) → (b ≡ carriage_return → ⊥) → is_space b ≡ false
 no_space b s t l r = rw (ne_eqb b space s, ne_eqb b tab t, ne_eqb b line_feed l, ne_eqb b carriage_return r) refl
 
+-- the gap ends at a byte that is none of the four, nor a slash
+pub past_gap-ends : (mode : Mode) (buffer : List ℕ) (at b : ℕ) → (at < length buffer) × ((d : ℕ) → b ≡ get_or buffer at d) →
+    (b ≡ space → ⊥) → (b ≡ tab → ⊥) → (b ≡ line_feed → ⊥) → (b ≡ carriage_return → ⊥) → (b ≡ slash → ⊥) → at ≡ past_gap buffer at mode
+past_gap-ends mode buffer at b read s t l r no_slash =
+    past_gap-here mode buffer at b (slice_get-from_read buffer at b b read refl) (no_space b s t l r) (ne_eqb b slash no_slash)
+
 -- such is a byte above a space
 pub above_space : (b : ℕ) → space < b → is_space b ≡ false
 above_space b above = no_space b (omega arith) (omega arith) (omega arith) (omega arith)
