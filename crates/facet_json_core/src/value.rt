@@ -5,15 +5,13 @@ ghost use Rattle.std.specs.Prelude.{MatchResult, ◌≢◌, Ok, OnErr};
 ghost use Rattle.facet_format.specs.Complaint.{no_memory};
 ghost use Rattle.facet_format.specs.Event.{Passed};
 ghost use Rattle.facet_format.specs.Views.{event_kind_of, event_of, refusal_of, scalar_value_of, span_of};
-ghost use Rattle.facet_json_token.specs.Gap.{Mode as SpecMode, plain};
 ghost use Rattle.facet_json_grammar.specs.Node.{Node};
 ghost use Rattle.facet_json_grammar.specs.Tree.{Tree as SpecTree};
 ghost use Rattle.facet_json_grammar.specs.Document.{IsDocument};
 ghost use Rattle.facet_json_grammar.specs.Future.{Future, finished, gives};
-ghost use Rattle.facet_json_grammar.specs.Language.{strict};
 ghost use Rattle.facet_json_grammar.specs.StrictDocument.{IsStrictDocument};
 ghost use Rattle.facet_json_grammar.specs.Next.{PassesNext, IsOver};
-ghost use Rattle.facet_json_grammar.specs.Now.{ahead, fresh, fresh_in, future_of, GoesOn, current_span_of as last_read, StandsAt};
+ghost use Rattle.facet_json_grammar.specs.Now.{ahead, future_of, GoesOn, current_span_of as last_read, StandsAt};
 ghost use Rattle.facet_json_serializer.specs.Serializer.{Writing as SpecWriting, Appends};
 ghost use Rattle.facet_json_serializer.specs.TreeCalls.{with_tree};
 ghost use Rattle.facet_json_serializer.specs.Views.{call_answer_of};
@@ -24,7 +22,7 @@ ghost use Rattle.facet_json_core.specs.Meaning.Passing.{LacksAlone, WalksPast};
 ghost use Rattle.facet_json_core.specs.Told.{begins};
 ghost use Rattle.facet_json_core.specs.Transcode.{serializer_call_of, containers_after as spec_depth_after, IsWritten, BeginsNone};
 ghost use Rattle.facet_json_core.specs.TranscodeViews.{IsUnwritten, TranscodeLacksMemory, IsTranscodeRefused, ErrorWithin, IsMisplaced};
-ghost use Rattle.facet_json_core.specs.TranscodeViews.{TellsError};
+ghost use Rattle.facet_json_core.specs.TranscodeViews.{FromNew, FromNewStrict, TellsError, WritesDocument, WritesStrictDocument};
 ghost use Rattle.facet_format.specs.Cursor.{next, event};
 ghost use Rattle.facet_format.specs.Span.{stop};
 ghost use Rattle.facet_format.specs.Steps.{IsStep};
@@ -64,23 +62,17 @@ pub fn transcode<'t>(
         → OnOk result (IsWritten (future_of parser.old) w (future_of parser.new) serializer.new) }
     ensures unwritten { (w : SpecWriting) → serializer.old ≡ Some w → parser.old.cursor.refusal ≡ None
         → IfErr result (λ e. IsUnwritten parser.old.buffer (future_of parser.old) e) }
-    ensures document { (input : List ℕ) (mode : SpecMode) (w : SpecWriting) → parser.old ≡ fresh input mode → serializer.old ≡ Some w
-        → OnOk result ((root : Node) × (value : SpecTree) × IsDocument input mode root value
-        × (serializer.new ≡ Some (with_tree w value))) }
-    ensures refused { (input : List ℕ) (mode : SpecMode) (w : SpecWriting) → parser.old ≡ fresh input mode → serializer.old ≡ Some w
-        → IfErr result (λ e. IsTranscodeRefused input mode e) }
-    ensures only { (input : List ℕ) (mode : SpecMode) (w : SpecWriting) → parser.old ≡ fresh input mode → serializer.old ≡ Some w
-        → (root : Node) (value : SpecTree) → IsDocument input mode root value
-        → MatchResult result (λ _. serializer.new ≡ Some (with_tree w value)) (λ e. TranscodeLacksMemory e) }
-    ensures over { (input : List ℕ) (mode : SpecMode) (w : SpecWriting) → parser.old ≡ fresh input mode → serializer.old ≡ Some w
-        → OnOk result (future_of parser.new ≡ finished) }
-    ensures strict { (input : List ℕ) (w : SpecWriting) → parser.old ≡ fresh_in input (strict plain) → serializer.old ≡ Some w
-        → OnOk result (future_of parser.new ≡ finished
-        → (root : Node) × (value : SpecTree) × IsStrictDocument input root value × (serializer.new ≡ Some (with_tree w value))) }
-    ensures strict_only { (input : List ℕ) (w : SpecWriting) → parser.old ≡ fresh_in input (strict plain) → serializer.old ≡ Some w
-        → (root : Node) (value : SpecTree) → IsStrictDocument input root value
+    ensures document { FromNew parser.old serializer.old (λ input mode w. OnOk result (WritesDocument input mode w serializer.new)) }
+    ensures refused { FromNew parser.old serializer.old (λ input mode w. IfErr result (λ e. IsTranscodeRefused input mode e)) }
+    ensures only { FromNew parser.old serializer.old (λ input mode w. (root : Node) (value : SpecTree) → IsDocument input mode root value
+        → MatchResult result (λ _. serializer.new ≡ Some (with_tree w value)) (λ e. TranscodeLacksMemory e)) }
+    ensures over { FromNew parser.old serializer.old (λ input mode w. OnOk result (future_of parser.new ≡ finished)) }
+    ensures strict { FromNewStrict parser.old serializer.old (λ input w.
+        OnOk result (future_of parser.new ≡ finished → WritesStrictDocument input w serializer.new)) }
+    ensures strict_only { FromNewStrict parser.old serializer.old (λ input w. (root : Node) (value : SpecTree)
+        → IsStrictDocument input root value
         → MatchResult result (λ _. (serializer.new ≡ Some (with_tree w value)) × (future_of parser.new ≡ finished))
-        (λ e. TranscodeLacksMemory e) }
+        (λ e. TranscodeLacksMemory e)) }
     ensures within { IfErr result (λ e. ErrorWithin (length parser.old.buffer) e) }
     ensures tells { IfErr result (λ e. TellsError parser.old parser.new e) }
     ensures misplaced { (p : Passed) (rest : Future) → parser.old.cursor.refusal ≡ None → future_of parser.old ≡ gives p rest
