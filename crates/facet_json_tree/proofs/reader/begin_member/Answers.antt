@@ -64,9 +64,9 @@ pub returns-in_ok-begin_value-in-Some-clause-begun : goal.returns-in_ok-begin_va
 returns-in_ok-begin_value-in-Some-clause-begun c =
     let event = c.in_ok-next_of_value.ensures in
     let key = MatchOption-at_some _ _ _ c.in-Some.is c.in_ok-key.ensures.key in
-    member-began c.args.depth _ _ _ _ _ _ event.gave key event.moves c.in_ok-begin_value-in-Some.ensures.begun c.begin_value.ensures.keeps.input
+    member-began c.args.depth _ _ _ _ _ _ event.passed key event.moves c.in_ok-begin_value-in-Some.ensures.begun c.begin_value.ensures.keeps.input
 
 pub returns-in-None-clause-begun : goal.returns-in-None-clause-begun
 returns-in-None-clause-begun c =
     let event = c.in_ok-next_of_value.ensures in
-    end-passed struct_end _ _ _ event.gave (MatchOption-at_none _ _ c.in-None.is c.in_ok-key.ensures.key) event.moves
+    end-passed struct_end _ _ _ event.passed (MatchOption-at_none _ _ c.in-None.is c.in_ok-key.ensures.key) event.moves
