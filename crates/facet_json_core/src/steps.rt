@@ -2,6 +2,7 @@
 //! and of an object one by one, and a value that is passed unread. Each says what it does wherever the parser stands on a document's walk,
 //! and what it keeps on every input. The types of std and structs are read by them too.
 
+mod ahead;
 mod find;
 mod lists;
 mod next;

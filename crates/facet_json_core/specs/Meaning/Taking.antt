@@ -7,6 +7,8 @@ use Rattle.facet_format.specs.Part.{Source}
 use Rattle.facet_format.specs.Span.{stop}
 use Rattle.facet_json_grammar.specs.Now.{Now, StandsAt, ahead, GoesOn}
 use Rattle.facet_json_grammar.specs.Next.{PassesNext}
+use Rattle.facet_json_reader.specs.declared.sought.Sought.{Sought}
+use Rattle.facet_json_reader.specs.declared.sought.Sought.TheVariants as sought
 use Rattle.facet_json_core.specs.Meaning.ListSteps.{ends_list}
 use Rattle.facet_json_core.specs.Meaning.OneValue.{PassesByKind, PassesEndOf, PassesValue}
 use Rattle.facet_json_core.specs.Meaning.Optional.{is_null_event}
@@ -44,15 +46,19 @@ pub record StaysBefore (is : EventKind → Bool) (old new : Now) : Type 0 where
   pub finds : (w : Source) (c : Cursor ℕ) (p : Passed) → StandsAt old w c → c.refusal ≡ None →
       slice_get w.events c.spot.place ≡ Some p → StaysThere is w c p new
 
--- Wherever the parser stands on a walk the array's end stood there, and is passed; and whatever the input is, the array that it stood within.
-pub record TakesEnd (old new : Now) : Type 0 where
-  pub takes : Takes ends_list old new
-  pub value : PassesEndOf array old new
-  pub free : new.cursor.refusal ≡ None
+-- Whether such an event is looked for in place of a value.
+abbrev pub is_sought : Sought → EventKind → Bool
+is_sought sought.ListEnd = ends_list
+is_sought sought.Null = is_null_event
 
--- Wherever the parser stands on a walk null stood there, and is passed; and whatever the input is, a value.
-pub record TakesNull (old new : Now) : Type 0 where
-  pub takes : Takes is_null_event old new
-  pub value : PassesValue old new
+-- Whatever the input is: the end of a list is passed with the array that the parser stood within, and null as a value.
+abbrev pub PassesSought : Sought → Now → Now → Type 0
+PassesSought sought.ListEnd = PassesEndOf array
+PassesSought sought.Null = PassesValue
+
+-- What was looked for came, and is passed, wherever the parser stands on a walk; and so it is whatever the input is.
+pub record TakesSought (which : Sought) (old new : Now) : Type 0 where
+  pub takes : Takes (is_sought which) old new
+  pub value : PassesSought which old new
   pub shorter : ahead new < ahead old
   pub free : new.cursor.refusal ≡ None

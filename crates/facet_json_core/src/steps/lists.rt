@@ -8,13 +8,15 @@ ghost use Rattle.facet_json_core.specs.Refusing.{mismatch_of};
 ghost use Rattle.facet_json_core.specs.Meaning.ListSteps.{begins_list, ends_list, BeginsList, IsNoList};
 ghost use Rattle.facet_json_core.specs.Meaning.Peeking.{Finds};
 ghost use Rattle.facet_json_core.specs.Calls.{refusal_of, ahead, RefusalWithin, TellsRefusal};
-ghost use Rattle.facet_json_core.specs.Meaning.Taking.{StaysBefore, TakesEnd};
+ghost use Rattle.facet_json_core.specs.Meaning.Taking.{StaysBefore, TakesSought};
+ghost use Rattle.facet_json_reader.specs.declared.sought.Sought.TheVariants as sought;
 ghost use Rattle.facet_json_core.specs.Meaning.OneValue.{IsInside, LooksAhead};
 ghost use Rattle.facet_json_core.specs.Meaning.Passing.{LacksAlone};
 
+use crate::steps::ahead::{comes, take_out_of_line};
 use crate::steps::next::take_next;
 use crate::value::{mismatch, next_of_value};
-use facet_format::{DeserializeError, FormatParser, ParseEvent, ParseEventKind};
+use facet_format::{DeserializeError, ParseEvent, ParseEventKind};
 use facet_json_parser::{JsonParser, comes_other};
 use facet_json_reader::{ListEnd, ListStart, Sought};
 
@@ -68,17 +70,7 @@ pub fn end_comes<'t>(parser: &mut JsonParser<'_>) -> Result<bool, DeserializeErr
     ensures within { IfErr result (λ e. RefusalWithin parser.new.buffer (refusal_of e)) }
     ensures tells { IfErr result (λ e. TellsRefusal parser.old parser.new (refusal_of e)) }
 {
-    match parser.peek_event()? {
-        Some(event) => Ok(is_end(&event)),
-        None => Ok(false),
-    }
-}
-
-/// Whether an array ends with the event.
-fn is_end(event: &ParseEvent<'_>) -> bool
-    ensures { result ≡ ends_list (event_of event.now).kind }
-{
-    matches!(event.kind, ParseEventKind::SequenceEnd)
+    comes(parser, Sought::ListEnd)
 }
 
 /// Whether the array's end came, and is passed. Else the parser stands where it stood.
@@ -89,7 +81,7 @@ fn is_end(event: &ParseEvent<'_>) -> bool
 #[inline(always)]
 pub fn take_end<'t>(parser: &mut JsonParser<'_>) -> Result<bool, DeserializeError<'t>>
     ensures onward { GoesOn parser.old parser.new }
-    ensures taken { IfOk result (λ ended. ended ≡ true → TakesEnd parser.old parser.new) }
+    ensures taken { IfOk result (λ ended. ended ≡ true → TakesSought sought.ListEnd parser.old parser.new) }
     ensures stays { IfOk result (λ ended. ended ≡ false → StaysBefore ends_list parser.old parser.new) }
     ensures lacks { IfErr result (λ e. LacksAlone parser.old (refusal_of e)) }
     ensures within { IfErr result (λ e. RefusalWithin parser.new.buffer (refusal_of e)) }
@@ -100,23 +92,6 @@ pub fn take_end<'t>(parser: &mut JsonParser<'_>) -> Result<bool, DeserializeErro
     }
     match take_next(parser) {
         Some((ListEnd, _)) => Ok(true),
-        None => take_end_out_of_line(parser),
+        None => take_out_of_line(parser, Sought::ListEnd),
     }
-}
-
-/// Whether the array's end came, and is passed, by a peek: where a few bytes do not decide it.
-#[inline(never)]
-fn take_end_out_of_line<'t>(parser: &mut JsonParser<'_>) -> Result<bool, DeserializeError<'t>>
-    ensures onward { GoesOn parser.old parser.new }
-    ensures taken { IfOk result (λ ended. ended ≡ true → TakesEnd parser.old parser.new) }
-    ensures stays { IfOk result (λ ended. ended ≡ false → StaysBefore ends_list parser.old parser.new) }
-    ensures lacks { IfErr result (λ e. LacksAlone parser.old (refusal_of e)) }
-    ensures within { IfErr result (λ e. RefusalWithin parser.new.buffer (refusal_of e)) }
-    ensures tells { IfErr result (λ e. TellsRefusal parser.old parser.new (refusal_of e)) }
-{
-    if end_comes(parser)? {
-        let _end = next_of_value(parser)?;
-        return Ok(true);
-    }
-    Ok(false)
 }

@@ -3,18 +3,20 @@
 ghost use Rattle.std.specs.Prelude.{◌≡◌, ◌≤◌, ◌<◌, ◌+◌, true, false, None, Some, length, codes, IfOk, IfErr, OnOk, MatchOption};
 ghost use Rattle.facet_format.specs.Span.{stop};
 ghost use Rattle.facet_format.specs.Views.{event_of, span_of};
-ghost use Rattle.facet_json_core.specs.Meaning.Taking.{StaysBefore, TakesNext, TakesNull};
+ghost use Rattle.facet_json_core.specs.Meaning.Taking.{StaysBefore, TakesNext, TakesSought};
 ghost use Rattle.facet_json_grammar.specs.Now.{GoesOn};
 ghost use Rattle.facet_json_grammar.specs.Next.{PassesNext};
 ghost use Rattle.facet_json_core.specs.Refusing.{mismatch_of};
 ghost use Rattle.facet_json_core.specs.Meaning.Passing.{WalksPast, LacksAlone, PassesNull, LacksNull};
-ghost use Rattle.facet_json_core.specs.Meaning.OneValue.{PassesByKind, LooksAhead};
+ghost use Rattle.facet_json_reader.specs.declared.sought.Sought.TheVariants as sought;
+ghost use Rattle.facet_json_core.specs.Meaning.OneValue.{LooksAhead};
 ghost use Rattle.facet_json_core.specs.Meaning.Optional.{is_null_event};
 ghost use Rattle.facet_json_core.specs.Meaning.Peeking.{Finds};
 ghost use Rattle.facet_json_core.specs.Calls.{refusal_of, ahead, RefusalWithin, TellsRefusal, PassesValue};
 
+use crate::steps::ahead::{comes, take_out_of_line};
 use crate::value::{mismatch, next_of_value};
-use facet_format::{DeserializeError, FormatParser, ParseEvent, ParseEventKind, ScalarValue, Span};
+use facet_format::{DeserializeError, ParseEvent, ParseEventKind, ScalarValue, Span};
 use facet_json_parser::{JsonParser, comes_other, next_wanted};
 use facet_json_reader::{Null, Sought, Wanted};
 
@@ -40,17 +42,7 @@ pub fn null_comes<'t>(parser: &mut JsonParser<'_>) -> Result<bool, DeserializeEr
     ensures within { IfErr result (λ e. RefusalWithin parser.new.buffer (refusal_of e)) }
     ensures tells { IfErr result (λ e. TellsRefusal parser.old parser.new (refusal_of e)) }
 {
-    match parser.peek_event()? {
-        Some(event) => Ok(is_null(&event)),
-        None => Ok(false),
-    }
-}
-
-/// The event is null.
-fn is_null(event: &ParseEvent<'_>) -> bool
-    ensures { result ≡ is_null_event (event_of event.now).kind }
-{
-    matches!(event.kind, ParseEventKind::Scalar(ScalarValue::Null))
+    comes(parser, Sought::Null)
 }
 
 /// Whether null came, and is passed. Else the parser stands where it stood.
@@ -61,7 +53,7 @@ fn is_null(event: &ParseEvent<'_>) -> bool
 #[inline(always)]
 pub fn take_null<'t>(parser: &mut JsonParser<'_>) -> Result<bool, DeserializeError<'t>>
     ensures onward { GoesOn parser.old parser.new }
-    ensures taken { IfOk result (λ is. is ≡ true → TakesNull parser.old parser.new) }
+    ensures taken { IfOk result (λ is. is ≡ true → TakesSought sought.Null parser.old parser.new) }
     ensures stays { IfOk result (λ is. is ≡ false → StaysBefore is_null_event parser.old parser.new) }
     ensures lacks { IfErr result (λ e. LacksAlone parser.old (refusal_of e)) }
     ensures within { IfErr result (λ e. RefusalWithin parser.new.buffer (refusal_of e)) }
@@ -72,25 +64,8 @@ pub fn take_null<'t>(parser: &mut JsonParser<'_>) -> Result<bool, DeserializeErr
     }
     match take_next(parser) {
         Some((Null, _)) => Ok(true),
-        None => take_null_out_of_line(parser),
+        None => take_out_of_line(parser, Sought::Null),
     }
-}
-
-/// Whether a null came, and is passed, by a peek: where a few bytes do not decide it.
-#[inline(never)]
-fn take_null_out_of_line<'t>(parser: &mut JsonParser<'_>) -> Result<bool, DeserializeError<'t>>
-    ensures onward { GoesOn parser.old parser.new }
-    ensures taken { IfOk result (λ is. is ≡ true → TakesNull parser.old parser.new) }
-    ensures stays { IfOk result (λ is. is ≡ false → StaysBefore is_null_event parser.old parser.new) }
-    ensures lacks { IfErr result (λ e. LacksAlone parser.old (refusal_of e)) }
-    ensures within { IfErr result (λ e. RefusalWithin parser.new.buffer (refusal_of e)) }
-    ensures tells { IfErr result (λ e. TellsRefusal parser.old parser.new (refusal_of e)) }
-{
-    if null_comes(parser)? {
-        let _null = next_of_value(parser)?;
-        return Ok(true);
-    }
-    Ok(false)
 }
 
 /// Passes null.
