@@ -30,4 +30,4 @@ pub use raw::RawJson;
 pub use report::Report;
 pub use script::{Answer, Call, drive};
 pub use transcode_error::TranscodeError;
-pub use value::{ended, last_span, mismatch, next_of_value, pass_end, transcode};
+pub use value::{ended, last_span, mismatch, next_in_line, next_of_value, pass_end, transcode};

@@ -131,7 +131,7 @@ fn next_within<'t, 'de>(
     ensures within { IfErr result (λ e. IfSome e.span (λ s. s.offset + s.len ≤ length parser.new.buffer)) }
     ensures tells { IfErr result (λ e. TellsRefusal parser.old parser.new (refusal_of e)) }
 {
-    let event = next_of_value(parser)?;
+    let event = next_in_line(parser)?;
     if depth == 0 && !begins_value(&event.kind) {
         return Err(mismatch("value", event));
     }
@@ -195,8 +195,29 @@ fn pass(
 /// # Errors
 ///
 /// As the parser's `next_event`; and where the parser is at the end of its document, an unexpected end.
-#[inline(always)]
 pub fn next_of_value<'t, 'de>(
+    parser: &mut JsonParser<'de>,
+) -> Result<ParseEvent<'de>, DeserializeError<'t>>
+    ensures onward { GoesOn parser.old parser.new }
+    ensures shorter { OnOk result (ahead parser.new < ahead parser.old) }
+    ensures passed { IfOk result (λ e. PassesNext parser.old (event_of e) parser.new) }
+    ensures walks { IfOk result (λ e. WalksPast parser.old (event_of e) parser.new) }
+    ensures by_kind { IfOk result (λ e. PassesByKind (event_of e).kind parser.old parser.new) }
+    ensures event_within { IfOk result (λ e. stop (event_of e).span ≤ length parser.new.buffer) }
+    ensures lacks { IfErr result (λ e. LacksAlone parser.old (refusal_of e)) }
+    ensures within { IfErr result (λ e. RefusalWithin parser.new.buffer (refusal_of e)) }
+    ensures tells { IfErr result (λ e. TellsRefusal parser.old parser.new (refusal_of e)) }
+{
+    next_in_line(parser)
+}
+
+/// The same in the caller's code, for a reader that takes every event of a document.
+///
+/// # Errors
+///
+/// As `next_of_value`.
+#[inline(always)]
+pub fn next_in_line<'t, 'de>(
     parser: &mut JsonParser<'de>,
 ) -> Result<ParseEvent<'de>, DeserializeError<'t>>
     ensures onward { GoesOn parser.old parser.new }
@@ -204,8 +225,6 @@ pub fn next_of_value<'t, 'de>(
     ensures passed { IfOk result (λ e. PassesNext parser.old (event_of e) parser.new) }
     ensures steps { IfOk result (λ e. IsStep StandsAt parser.old next (event (Ok (Some (event_of e)))) parser.new) }
     ensures moves { IfOk result (λ e. Moves parser.old next (event (Ok (Some (event_of e)))) parser.new) }
-    ensures walks { IfOk result (λ e. WalksPast parser.old (event_of e) parser.new) }
-    ensures by_kind { IfOk result (λ e. PassesByKind (event_of e).kind parser.old parser.new) }
     ensures event_within { IfOk result (λ e. stop (event_of e).span ≤ length parser.new.buffer) }
     ensures refused { parser.old.cursor.refusal ≡ None → IfErr result (λ e. GivesNone parser.old (refusal_of e)) }
     ensures lacks { IfErr result (λ e. LacksAlone parser.old (refusal_of e)) }

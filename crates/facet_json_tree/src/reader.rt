@@ -34,7 +34,7 @@ use facet_format::{
     DeserializeError, DeserializeErrorKind, FormatParser, ParseEvent, ParseEventKind, ScalarValue,
     Span,
 };
-use facet_json_core::next_of_value;
+use facet_json_core::next_in_line;
 use facet_json_parser::JsonParser;
 use std::alloc::{AllocError, Global};
 
@@ -173,7 +173,7 @@ fn begin_value<'t>(
     ensures within { IfErr result (λ e. IfSome e.span (λ s. s.offset + s.len ≤ length parser.new.buffer)) }
     ensures tells { IfErr result (λ e. TellsRefusal parser.old parser.new (refusal_of e)) }
 {
-    begun(alloc, next_of_value(parser)?, depth)
+    begun(alloc, next_in_line(parser)?, depth)
 }
 
 /// The next item of a list, its own items or members still to be read. Nothing at the end of the list, which is passed.
@@ -193,7 +193,7 @@ fn begin_item<'t>(
     ensures within { IfErr result (λ e. IfSome e.span (λ s. s.offset + s.len ≤ length parser.new.buffer)) }
     ensures tells { IfErr result (λ e. TellsRefusal parser.old parser.new (refusal_of e)) }
 {
-    let first = next_of_value(parser)?;
+    let first = next_in_line(parser)?;
     if let ParseEventKind::SequenceEnd = first.kind {
         return Ok(None);
     }
@@ -218,7 +218,7 @@ fn begin_member<'t>(
     ensures within { IfErr result (λ e. IfSome e.span (λ s. s.offset + s.len ≤ length parser.new.buffer)) }
     ensures tells { IfErr result (λ e. TellsRefusal parser.old parser.new (refusal_of e)) }
 {
-    match member_key(alloc, next_of_value(parser)?)? {
+    match member_key(alloc, next_in_line(parser)?)? {
         Some(key) => Ok(Some((key, begin_value(alloc, parser, depth)?))),
         None => Ok(None),
     }

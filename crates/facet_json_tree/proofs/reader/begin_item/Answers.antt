@@ -39,7 +39,7 @@ returns-in-SequenceEnd-clause-begun c =
 
 pub returns : goal.returns
 returns c = record {
-  keeps = goes-keeps _ _ c.next_of_value.ensures.onward;
+  keeps = goes-keeps _ _ c.next_in_line.ensures.onward;
   moves = moves-next c.in_ok-first.ensures.steps;
   shorter = c.in_ok-first.ensures.shorter;
   begun = began _ _ _ _ _ c.in_ok-first.ensures.passed c.in_ok-begun.ensures.begun c.in_ok-first.ensures.moves;
