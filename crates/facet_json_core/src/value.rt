@@ -211,7 +211,7 @@ pub fn next_of_value<'t, 'de>(
     next_in_line(parser)
 }
 
-/// The same in the caller's code, for a reader that takes every event of a document.
+/// The next event of a value, in the caller's code: for a reader that takes every event of a document.
 ///
 /// # Errors
 ///

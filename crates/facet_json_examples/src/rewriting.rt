@@ -30,7 +30,7 @@ pub fn rewritten(alloc: Global, input: &[u8]) -> Result<Vec<u8>, JsonError>
     Ok(to_vec(alloc, &tree)?)
 }
 
-/// The same, each element on a line of its own.
+/// The document that the input has, written anew with each element on a line of its own.
 pub fn indented(alloc: Global, input: &[u8]) -> Result<Vec<u8>, JsonError>
     ensures written { IfOk result (λ v. (root : Node) × (value : Tree) × IsDocument input.now plain root value
         × (v.items ≡ text pretty_options 0 value)

@@ -104,7 +104,7 @@ static UNSIGNED: [Row<'static>; 6] = [
     Row { by: By::Each, input: "\"5\"", answer: Ok("5"), wants: &[], grows: false },
 ];
 
-/// The same with a sign.
+/// Whole numbers of types with a sign.
 #[rattlefmt::skip]
 static SIGNED: [Row<'static>; 5] = [
     Row { by: By::Each, input: "7", answer: Ok("7"), wants: &[], grows: false },

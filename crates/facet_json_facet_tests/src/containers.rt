@@ -23,7 +23,7 @@ static BYTES: [Case<'static>; 3] = [
 /// Lists of values that may be null.
 static LISTS: [Case<'static>; 1] = [("[1,null]", Told::Value("[1,null]"), 0, 0)];
 
-/// The same with a comma too many.
+/// A list of values that may be null, with a comma too many.
 static LENIENT_LISTS: [Case<'static>; 1] = [("[ 1, null, ]", Told::Value("[1,null]"), 0, 0)];
 
 /// Lists of lists.

@@ -217,7 +217,7 @@ fn holds(alloc: Global, document: &Document<'_>, row: &Row) -> bool {
     }
 }
 
-/// The same of what is read.
+/// Whether the row is read as a document in which its pointer names a value of its bytes.
 fn is_told(alloc: Global, row: &Row) -> bool {
     match read(alloc, &row.language, row.text.as_bytes()) {
         Ok(document) => holds(alloc, &document, row),

@@ -106,7 +106,7 @@ fn is_found(document: &Document<'_>, row: &Row) -> bool {
     }
 }
 
-/// The same of the document that the row's text has.
+/// Whether the row's text is read as a document that has what the row tells.
 fn holds(alloc: Global, row: &Row) -> bool {
     match Document::parse(alloc, row.text.as_bytes()) {
         Ok(document) => is_found(&document, row),

@@ -21,7 +21,7 @@ static COMMENTED: [(&str, u8, &str); 1] = [("/* seven */ 7", 7, "7")];
 /// Numbers with a sign.
 static SIGNED: [(&str, i8, &str); 1] = [("-7", -7, "-7")];
 
-/// The same with comments before them.
+/// Numbers with a sign behind comments.
 static SIGNED_COMMENTED: [(&str, i8, &str); 1] = [("// below zero\n-7", -7, "-7")];
 
 /// Texts that are lent.
@@ -30,7 +30,7 @@ static LENT: [(&str, &str, &str); 2] = [
     ("\"\u{4e2d}\"", "\u{4e2d}", "\"\u{4e2d}\""),
 ];
 
-/// The same with comments.
+/// Texts that are lent, beside comments.
 static LENT_COMMENTED: [(&str, &str, &str); 2] = [
     ("/**/\"ab\"", "ab", "\"ab\""),
     ("\"\" // none", "", "\"\""),

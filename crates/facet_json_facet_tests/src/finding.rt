@@ -34,7 +34,7 @@ fn finds(alloc: Global, parser: &mut JsonParser<'_>, found: &[(&str, Option<u64>
     true
 }
 
-/// The same of the object that is the input.
+/// Whether this is what is found in the object that is the input.
 fn are_found(alloc: Global, input: &str, found: &[(&str, Option<u64>)]) -> bool {
     finds(alloc, &mut JsonParser::new(alloc, input.as_bytes()), found)
 }

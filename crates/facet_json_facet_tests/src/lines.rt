@@ -119,7 +119,7 @@ fn failures_told<R: Read>(
     Some(failed)
 }
 
-/// The same of a row whose bytes come this way.
+/// How many lines of the row fail, whose bytes come this way.
 fn failures(alloc: Global, row: &Row, way: Way) -> Option<usize> {
     let Way {
         buffer,

@@ -154,7 +154,7 @@ fn has_second<'de, T: Facet<'de>>(
         && is_read_as(alloc, T::read(alloc, parser), written)
 }
 
-/// The same of the list that is the input.
+/// Whether the second item of the list that is the input is written as this.
 fn is_second<'de, T: Facet<'de>>(alloc: Global, input: &'de str, written: &str) -> bool {
     let mut parser = JsonParser::new(alloc, input.as_bytes());
     has_second::<T>(alloc, &mut parser, written)

@@ -114,7 +114,7 @@ fn reads_by<'de, T: Facet<'de>>(
     if goes_on { is_answer } else { Some(false) }
 }
 
-/// The same of a parser of the row's input.
+/// Whether the type itself gives the row's answer of a parser of the row's input.
 fn reads_itself<'de, T: Facet<'de>>(alloc: Global, borrows: bool, row: &Row<'de>) -> Option<bool> {
     let input = row.input.as_bytes();
     reads_by::<T>(alloc, &mut JsonParser::new(alloc, input), borrows, row)
@@ -129,7 +129,7 @@ fn reads<'de, T: Facet<'de>>(alloc: Global, entry: &Entry, row: &Row<'de>) -> Op
     }
 }
 
-/// The same twice.
+/// Whether the entry gives the row's answer in one of two calls.
 fn is_read<'de, T: Facet<'de>>(alloc: Global, entry: &Entry, row: &Row<'de>) -> bool {
     but_once(reads::<T>(alloc, entry, row), reads::<T>(alloc, entry, row))
 }
@@ -142,7 +142,7 @@ fn expect_row<'de, T: Facet<'de>>(rt: &impl Abort, alloc: Global, row: &Row<'de>
     }
 }
 
-/// The same of rows.
+/// Fails where an entry doesn't give a row's answer.
 pub fn expect_rows<'de, T: Facet<'de>>(rt: &impl Abort, alloc: Global, rows: &[Row<'de>]) {
     for row in rows {
         expect_row::<T>(rt, alloc, row);
@@ -206,7 +206,7 @@ fn expect_case<'de, T: Facet<'de>>(rt: &impl Abort, alloc: Global, by: By, case:
     expect_row::<T>(rt, alloc, &row);
 }
 
-/// The same of cases.
+/// Fails where one of these entries, with ample memory, doesn't answer what a case says.
 pub fn expect<'de, T: Facet<'de>>(rt: &impl Abort, alloc: Global, by: By, cases: &[Case<'de>]) {
     for case in cases {
         expect_case::<T>(rt, alloc, by, case);

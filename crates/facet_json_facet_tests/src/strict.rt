@@ -28,19 +28,19 @@ static NO_BYTES: [Case<'static>; 7] = [
     ("/**/1", Told::Byte('/'), 0, 1),
 ];
 
-/// The same of lists.
+/// What is no list alone.
 static NO_LISTS: [Case<'static>; 2] = [
     ("[1]]", Told::Token("ArrayEnd", "end of input"), 3, 1),
     ("[1,]", Told::Token("ArrayEnd", "value"), 3, 1),
 ];
 
-/// The same of texts.
+/// What is no text alone.
 static NO_TEXTS: [Case<'static>; 2] = [
     ("\"a\" \"\\q\"", Told::Byte('q'), 6, 1),
     ("\"\t\"", Told::Byte('\t'), 1, 1),
 ];
 
-/// The same of raw texts.
+/// What is no raw text alone.
 static NO_RAWS: [Case<'static>; 1] = [("[1,] 2", Told::Token("U64", "end of input"), 5, 1)];
 
 #[test]

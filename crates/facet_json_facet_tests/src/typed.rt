@@ -38,7 +38,7 @@ pub fn expect_value<'de, T: Facet<'de> + PartialEq>(
     expect_that(rt, is_written_as(alloc, value, text), text);
 }
 
-/// The same of rows: an input, its value, and the text of that.
+/// Expects of each row, which is an input, its value and the text of that, that it is read and written so.
 pub fn expect_values<'de, T: Facet<'de> + PartialEq>(
     rt: &impl Abort,
     alloc: Global,

@@ -32,7 +32,7 @@ pub struct Options {
 pub enum Language {
     /// As RFC 8259 describes it, leniently.
     Plain,
-    /// The same, with comments.
+    /// Leniently, and with comments.
     Jsonc,
     /// RFC 8259 alone.
     Strict,

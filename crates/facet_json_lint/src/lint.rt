@@ -32,7 +32,7 @@ pub struct Lint<'a> {
 struct Source<'a> {
     /// The file's name, as it is called.
     name: &'a str,
-    /// The same, as it is shown.
+    /// The file's name as it is shown.
     shown: &'a str,
     text: &'a [u8],
 }
