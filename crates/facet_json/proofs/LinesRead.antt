@@ -4,7 +4,7 @@ use Rattle.std.proofs.lemmas.List.Elements.{All-nil, All-cons, All-append, All-h
 use Rattle.std.specs.Io.KnownBytes.{IsAtEnd}
 use Rattle.std.specs.Io.BufRead.{drop_through}
 use Rattle.std.proofs.BufReadLemmas.{drop_through-append}
-use Rattle.facet_json.specs.declared.lines.Place.TheVariants.{Between, Within, Past}
+use Rattle.facet_json.specs.declared.lines.LinePlace.TheVariants.{Between, Within, Past}
 use Rattle.facet_json.specs.Lines.{begin, lines, ComeFirst, Lines, PassesLines, PassesBlank, PassesTo, RefusesLine, IsBlank}
 use Rattle.facet_json.specs.LineViews.{TellsLine, IsReadFailure}
 use Rattle.facet_json.specs.declared.lines.LineError.{LineError}

@@ -8,7 +8,7 @@ ghost use Rattle.facet_json_facet.specs.Inputs.{FirstValue, StrictValue};
 ghost use Rattle.facet_json.specs.Lines.{lines, IsBlank, ComeFirst, PassesLines, GivesLine, HasNoLine};
 ghost use Rattle.facet_json.specs.LineViews.{line_message, IsNext, TellsLine, IsReadFailure};
 ghost use Rattle.facet_json.specs.Inner.LinePlaces.{left_at, IsAt};
-ghost use Rattle.facet_json.specs.declared.lines.Place.TheVariants.{Within};
+ghost use Rattle.facet_json.specs.declared.lines.LinePlace.TheVariants.{Within};
 
 use crate::line_pieces::{Stop, read_text, skip_text};
 use facet_format::DeserializeError;
@@ -88,7 +88,7 @@ impl Error for LineError {}
 
 /// Where reading stands.
 #[derive(Clone, Copy)]
-pub(crate) enum Place {
+pub(crate) enum LinePlace {
     /// Before a line.
     Between,
     /// Within a line, which begins with the text.
@@ -114,7 +114,7 @@ pub struct Lines<R: Read> {
     text: Vec<u8>,
     limit: usize,
     number: usize,
-    place: Place,
+    place: LinePlace,
 }
 
 impl<R: Read> Model for Lines<R> {
@@ -149,7 +149,7 @@ impl<R: BufRead> Lines<R> {
             text: Vec::new(alloc),
             limit,
             number: 0,
-            place: Place::Between,
+            place: LinePlace::Between,
         }
     }
 
@@ -205,10 +205,10 @@ impl<R: BufRead> Lines<R> {
         if let Err(error) = resume(&mut self.reader, &mut self.text, self.place) {
             return Err(failed(error));
         }
-        self.place = Place::Within;
+        self.place = LinePlace::Within;
         match read_text(&mut self.reader, &mut self.text, self.limit) {
             Ok(Stop::LineFeed) => {
-                self.place = Place::Between;
+                self.place = LinePlace::Between;
                 self.number = number;
                 Ok(true)
             }
@@ -216,13 +216,13 @@ impl<R: BufRead> Lines<R> {
                 if self.text.is_empty() {
                     Ok(false)
                 } else {
-                    self.place = Place::Between;
+                    self.place = LinePlace::Between;
                     self.number = number;
                     Ok(true)
                 }
             }
             Ok(Stop::TooLong) => {
-                self.place = Place::Past;
+                self.place = LinePlace::Past;
                 self.number = number;
                 Err(LineError::TooLong { number })
             }
@@ -232,7 +232,7 @@ impl<R: BufRead> Lines<R> {
 }
 
 /// Goes to where a line is to be read or gone on with.
-fn resume<R: BufRead>(reader: &mut R, text: &mut Vec<u8>, place: Place) -> io::Result<()>
+fn resume<R: BufRead>(reader: &mut R, text: &mut Vec<u8>, place: LinePlace) -> io::Result<()>
     ensures begun { OnOk result
         (ComeFirst (left_at place text.old.items (R.remaining reader.old)) (left_at Within text.new.items (R.remaining reader.new)) []) }
     ensures one { (limit : ℕ) → IsAt place text.old.items limit → OnOk result (IsAt Within text.new.items limit) }
@@ -241,12 +241,12 @@ fn resume<R: BufRead>(reader: &mut R, text: &mut Vec<u8>, place: Place) -> io::R
     ensures kept { OnErr result (text.new.items ≡ text.old.items) }
 {
     match place {
-        Place::Between => {
+        LinePlace::Between => {
             text.clear();
             Ok(())
         }
-        Place::Within => Ok(()),
-        Place::Past => match skip_text(reader) {
+        LinePlace::Within => Ok(()),
+        LinePlace::Past => match skip_text(reader) {
             Ok(()) => {
                 text.clear();
                 Ok(())

@@ -5,7 +5,7 @@ ghost use Rattle.facet_json_token.specs.Views.{mode_of};
 ghost use Rattle.facet_json_document.specs.Pieces.{pieces, closing_next, without_trailing_commas};
 ghost use Rattle.facet_json_document.specs.Inner.Layout.{IsLaidOut, BeginsPiece, all_tokens, is_comma_sort, keeps_apart};
 
-use crate::pieces::{Found, Sort, closes_next, find, goes_on_in_line};
+use crate::pieces::{PieceAt, Sort, closes_next, find, goes_on_in_line};
 use crate::spacing::{Breaks, Indent, Space, push_space, space_between};
 use facet_json_escape::Sink;
 use facet_json_token::Mode;
@@ -64,9 +64,9 @@ impl Layout<'_> {
         };
         loop {
             match find(self.text, progress.at, self.mode) {
-                Found::Blank(byte) => progress = progress.past_blank(byte),
-                Found::Piece(sort, end) => progress = self.push_piece(out, progress, sort, end)?,
-                Found::End => return out.push(b'\n'),
+                PieceAt::Blank(byte) => progress = progress.past_blank(byte),
+                PieceAt::Piece(sort, end) => progress = self.push_piece(out, progress, sort, end)?,
+                PieceAt::End => return out.push(b'\n'),
             }
         }
     }

@@ -64,7 +64,7 @@ impl Sort {
 
 /// What stands at an offset.
 #[derive(Clone, Copy)]
-pub(crate) enum Found {
+pub(crate) enum PieceAt {
     /// A byte of white space.
     Blank(u8),
     /// A piece that ends at this offset.
@@ -74,23 +74,23 @@ pub(crate) enum Found {
 }
 
 /// What stands at `at`.
-pub(crate) fn find(text: &[u8], at: usize, mode: Mode) -> Found
+pub(crate) fn find(text: &[u8], at: usize, mode: Mode) -> PieceAt
     requires { at ≤ length text.now }
     ensures { IsFound (mode_of mode) text.now at result }
 {
     match text.get(at) {
         Some(first) => found_at(text, at, *first, mode),
-        None => Found::End,
+        None => PieceAt::End,
     }
 }
 
 /// What stands at `at`, where this is its first byte.
-fn found_at(text: &[u8], at: usize, first: u8, mode: Mode) -> Found
+fn found_at(text: &[u8], at: usize, first: u8, mode: Mode) -> PieceAt
     requires { slice_get text.now at ≡ Some first }
     ensures { IsFound (mode_of mode) text.now at result }
 {
     if is_blank(first) {
-        Found::Blank(first)
+        PieceAt::Blank(first)
     } else if first == b'/' {
         comment_at(text, at, mode)
     } else {
@@ -106,7 +106,7 @@ fn is_blank(byte: u8) -> bool
 }
 
 /// The token at `at`, whose first byte is `first`.
-fn token_at(text: &[u8], at: usize, first: u8, mode: Mode) -> Found
+fn token_at(text: &[u8], at: usize, first: u8, mode: Mode) -> PieceAt
     requires first { slice_get text.now at ≡ Some first }
     requires no_space { is_space first ≡ false }
     requires no_slash { (first == slash) ≡ false }
@@ -114,10 +114,10 @@ fn token_at(text: &[u8], at: usize, first: u8, mode: Mode) -> Found
 {
     match cut(text, at, mode) {
         Ok(token) => match token.token {
-            Token::Eof => Found::End,
-            _ => Found::Piece(sort_of(first), at + token.span.len),
+            Token::Eof => PieceAt::End,
+            _ => PieceAt::Piece(sort_of(first), at + token.span.len),
         },
-        Err(_) => Found::End,
+        Err(_) => PieceAt::End,
     }
 }
 
@@ -135,21 +135,21 @@ fn sort_of(first: u8) -> Sort
 }
 
 /// The comment at `at`, where a slash stands.
-fn comment_at(text: &[u8], at: usize, mode: Mode) -> Found
+fn comment_at(text: &[u8], at: usize, mode: Mode) -> PieceAt
     requires { slice_get text.now at ≡ Some slash }
     ensures { IsFound (mode_of mode) text.now at result }
 {
     match mode {
-        Mode::Plain => Found::End,
+        Mode::Plain => PieceAt::End,
         Mode::Jsonc => match text.get(at + 1) {
             Some(second) => marked_at(text, at, *second),
-            None => Found::End,
+            None => PieceAt::End,
         },
     }
 }
 
 /// The comment at `at`, where a slash stands before this byte.
-fn marked_at(text: &[u8], at: usize, second: u8) -> Found
+fn marked_at(text: &[u8], at: usize, second: u8) -> PieceAt
     requires first { slice_get text.now at ≡ Some slash }
     requires second { slice_get text.now (at + 1) ≡ Some second }
     ensures { IsFound jsonc text.now at result }
@@ -157,21 +157,21 @@ fn marked_at(text: &[u8], at: usize, second: u8) -> Found
     if second == b'*' {
         block_at(text, at)
     } else if second == b'/' {
-        Found::Piece(Sort::Line, line_comment_end(text, at))
+        PieceAt::Piece(Sort::Line, line_comment_end(text, at))
     } else {
-        Found::End
+        PieceAt::End
     }
 }
 
 /// The comment from `/*` to `*/` at `at`.
-fn block_at(text: &[u8], at: usize) -> Found
+fn block_at(text: &[u8], at: usize) -> PieceAt
     requires first { slice_get text.now at ≡ Some slash }
     requires second { slice_get text.now (at + 1) ≡ Some star }
     ensures { IsFound jsonc text.now at result }
 {
     match block_end(text, at + 2) {
-        Some(end) => Found::Piece(Sort::Block, end),
-        None => Found::End,
+        Some(end) => PieceAt::Piece(Sort::Block, end),
+        None => PieceAt::End,
     }
 }
 

@@ -77,7 +77,7 @@ impl Drop for Ahead<'_> {
 
 /// A place to come back to.
 #[derive(Drop)]
-struct Marked<'de> {
+struct Landmark<'de> {
     point: SavePoint,
     ahead: Option<Came<'de>>,
     last: Span,
@@ -104,7 +104,7 @@ pub struct Json<'de> {
     pub(crate) last: Span,
     /// The next value is the key of a map's entry.
     pub(crate) at_key: bool,
-    marks: Vec<Marked<'de>>,
+    marks: Vec<Landmark<'de>>,
 }
 
 /// By a call, so that a proof about a function that owns one need not take it apart.
@@ -541,7 +541,7 @@ impl<'de> Json<'de> {
         let Ok(point) = self.parser.save() else {
             return false;
         };
-        let marked = Marked {
+        let marked = Landmark {
             point,
             ahead,
             last: self.last,
@@ -616,7 +616,7 @@ impl<'de> Json<'de> {
         let Some(marked) = self.marks.pop() else {
             return;
         };
-        let Marked {
+        let Landmark {
             point,
             ahead,
             last,

@@ -8,8 +8,8 @@ use Rattle.facet_json_grammar.specs.RfcText.{AreSpaces}
 use Rattle.facet_json_document.specs.Pieces.{TextPiece, token_text, comment, no_token, pieces, without_trailing_commas, is_comma, closes}
 use Rattle.facet_json_document.specs.declared.pieces.Sort.{Sort}
 use Rattle.facet_json_document.specs.declared.pieces.Sort.TheVariants as sort
-use Rattle.facet_json_document.specs.declared.pieces.Found.{Found}
-use Rattle.facet_json_document.specs.declared.pieces.Found.TheVariants as found
+use Rattle.facet_json_document.specs.declared.pieces.PieceAt.{PieceAt}
+use Rattle.facet_json_document.specs.declared.pieces.PieceAt.TheVariants as found
 use Rattle.facet_json_document.specs.declared.spacing.Space.{Space}
 use Rattle.facet_json_document.specs.declared.spacing.Space.TheVariants as space
 
@@ -69,7 +69,7 @@ all_tokens (comment text ∷ ps) = all_tokens ps
 all_tokens (token_text text ∷ ps) = all_tokens ps
 
 -- What stands at an offset of the text.
-abbrev pub IsFound : Mode → List ℕ → ℕ → Found → Type 0
+abbrev pub IsFound : Mode → List ℕ → ℕ → PieceAt → Type 0
 IsFound mode text at (found.Blank b) = (at < length text) × (pieces mode (drop at text) ≡ pieces mode (drop (at + 1) text))
 IsFound mode text at (found.Piece s end) = (at ≤ end) × BeginsPiece mode (drop at text) s (end - at)
 IsFound mode text at found.End = all_tokens (pieces mode (drop at text)) ≡ true → pieces mode (drop at text) ≡ []

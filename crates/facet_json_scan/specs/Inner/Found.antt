@@ -7,8 +7,8 @@ use Rattle.facet_json_token.specs.Gap.{Mode, growing}
 use Rattle.facet_json_token.specs.GapLen.{piece_len}
 use Rattle.facet_json_token.specs.Cut.{cut_here, cut, past_gap}
 use Rattle.facet_format.specs.Bytes.{slash}
-use Rattle.facet_json_scan.specs.declared.scanner.pending.Part.{Part as RustPart}
-use Rattle.facet_json_scan.specs.declared.scanner.pending.Part.TheVariants as part
+use Rattle.facet_json_scan.specs.declared.scanner.pending.NumberPart.{NumberPart as RustPart}
+use Rattle.facet_json_scan.specs.declared.scanner.pending.NumberPart.TheVariants as part
 use Rattle.facet_json_scan.specs.declared.scanner.pending.State.{State as RustState}
 use Rattle.facet_json_scan.specs.declared.scanner.pending.State.TheVariants as state
 use Rattle.facet_json_scan.specs.declared.scanner.pending.Pending.{Pending as RustPending}

@@ -10,7 +10,7 @@ use facet_format::numeral::NumberHint;
 
 /// The part of a number (RFC 8259, section 6) in which its last byte stands.
 #[derive(Debug, Clone, Copy)]
-pub enum Part {
+pub enum NumberPart {
     /// The minus and the digits.
     Digits,
     /// The dot and its digits.
@@ -34,7 +34,7 @@ pub enum State {
     /// In a literal, of which at most five letters are compared again.
     Word,
     /// In this part of a number.
-    Number(Part),
+    Number(NumberPart),
     /// After a slash.
     Slash,
     /// In a line comment.
@@ -55,42 +55,48 @@ pub struct Pending {
     pub state: State,
 }
 
-impl Part {
+impl NumberPart {
     /// The part in which this byte stands, if it goes on with the number.
-    pub fn after(self, byte: u8) -> Option<Part>
+    pub fn after(self, byte: u8) -> Option<NumberPart>
         ensures { MatchOption result (EndsBefore (number_part_of self) byte)
             (λ next. ExtendsWith (number_part_of self) byte (number_part_of next)) }
     {
         let is_digit = is_digit(byte);
         match self {
-            Part::Digits => {
+            NumberPart::Digits => {
                 if is_digit {
-                    Some(Part::Digits)
+                    Some(NumberPart::Digits)
                 } else if byte == b'.' {
-                    Some(Part::Fraction)
+                    Some(NumberPart::Fraction)
                 } else if is_exponent_mark(byte) {
-                    Some(Part::Mark)
+                    Some(NumberPart::Mark)
                 } else {
                     None
                 }
             }
-            Part::Fraction => {
+            NumberPart::Fraction => {
                 if is_digit {
-                    Some(Part::Fraction)
+                    Some(NumberPart::Fraction)
                 } else if is_exponent_mark(byte) {
-                    Some(Part::Mark)
+                    Some(NumberPart::Mark)
                 } else {
                     None
                 }
             }
-            Part::Mark => {
+            NumberPart::Mark => {
                 if is_digit || is_sign(byte) {
-                    Some(Part::Exponent)
+                    Some(NumberPart::Exponent)
                 } else {
                     None
                 }
             }
-            Part::Exponent => { if is_digit { Some(Part::Exponent) } else { None } }
+            NumberPart::Exponent => {
+                if is_digit {
+                    Some(NumberPart::Exponent)
+                } else {
+                    None
+                }
+            }
         }
     }
 
@@ -99,7 +105,7 @@ impl Part {
         ensures { hint_of result ≡ part_hint (number_part_of self) is_negative }
     {
         match self {
-            Part::Digits => {
+            NumberPart::Digits => {
                 if is_negative {
                     NumberHint::Signed
                 } else {

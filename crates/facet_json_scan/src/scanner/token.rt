@@ -16,7 +16,7 @@ ghost use Rattle.facet_json_scan.specs.Inner.Found.{number_part_of, FoundHere, F
 
 use crate::refusing::told;
 use crate::scanner::gap::{Piece, piece_from};
-use crate::scanner::pending::{Part, State};
+use crate::scanner::pending::{NumberPart, State};
 use facet_format::Span;
 use facet_json_token::cutting::{common_len, cut_number, cut_token, cut_word, token_at};
 use facet_json_token::quick::{gap_end, plain_text_end};
@@ -77,7 +77,7 @@ fn token_from(buffer: &[u8], at: usize, mode: Mode) -> Found
         b'n' => word_from(buffer, at, b"null", Token::Null),
         b't' => word_from(buffer, at, b"true", Token::True),
         b'f' => word_from(buffer, at, b"false", Token::False),
-        b'-' | b'0'..=b'9' => number_from(buffer, at, at + 1, Part::Digits),
+        b'-' | b'0'..=b'9' => number_from(buffer, at, at + 1, NumberPart::Digits),
         _ => Found::Answer {
             start: at,
             result: told(cut_token(buffer, at, *first, mode)),
@@ -177,7 +177,7 @@ fn word_from(buffer: &[u8], at: usize, word: &[u8], token: Token) -> Found
 }
 
 /// Goes on at `at` with the number, or the bare minus, at `start`, whose last byte so far stands in this part.
-pub fn number_from(buffer: &[u8], start: usize, at: usize, part: Part) -> Found
+pub fn number_from(buffer: &[u8], start: usize, at: usize, part: NumberPart) -> Found
     requires order { start < at }
     requires room { at ≤ length buffer.now }
     ensures here { EndsIn (number_part_of part) (drop start (take at buffer.now))
@@ -204,7 +204,7 @@ pub fn number_from(buffer: &[u8], start: usize, at: usize, part: Part) -> Found
 }
 
 /// The token of the number from `start` to `end`, whose last byte stands in this part, or what is cut of a minus alone.
-fn number_token(buffer: &[u8], start: usize, end: usize, part: Part) -> ScanResult
+fn number_token(buffer: &[u8], start: usize, end: usize, part: NumberPart) -> ScanResult
     requires order { start < end }
     requires room { end < length buffer.now }
     ensures token { let text = drop start (take end buffer.now) in EndsIn (number_part_of part) text

@@ -2,7 +2,7 @@
 use Rattle.std.proofs.Common.{[], ◌∷◌, subst, refl, rules}
 use Rattle.facet_json.specs.Lines.{Lines, PassesLines, PassesBlank, RefusesLine}
 use Rattle.facet_json.specs.Inner.LinePlaces.{left_at}
-use Rattle.facet_json.specs.declared.lines.Place.TheVariants.{Between, Within, Past}
+use Rattle.facet_json.specs.declared.lines.LinePlace.TheVariants.{Between, Within, Past}
 use Rattle.facet_json.proofs.LinesRead.{first-then, grown-within, fed-line, last-line, long-line, failure-refused, none-blank, one-passed, long-refused}
 use Rattle.facet_json.proofs.lines.Lines.pass_line.Goals as goal
 

@@ -4,8 +4,8 @@ use Rattle.std.proofs.lemmas.Bool.{ne_eqb}
 use Rattle.facet_format.specs.Bytes.{dot}
 use Rattle.facet_json_scan.specs.Scanner.{at_mark, in_exponent, ExtendsWith, EndsBefore}
 use Rattle.facet_json_scan.proofs.Pieces.NumberParts.{digit-after_digits, dot-after_digits, mark-after_digits, shut-digits, digit-after_fraction, mark-after_fraction, shut-fraction, sign-after_mark, digit-after_mark, shut-mark, digit-after_exponent, shut-exponent}
-use Rattle.facet_json_scan.proofs.scanner.pending.Part.after.Goals as goal
-use Rattle.facet_json_scan.proofs.scanner.pending.Part.after.Goals.{then-is_digit-3, else-is_digit-3}
+use Rattle.facet_json_scan.proofs.scanner.pending.NumberPart.after.Goals as goal
+use Rattle.facet_json_scan.proofs.scanner.pending.NumberPart.after.Goals.{then-is_digit-3, else-is_digit-3}
 
 pub returns-then-is_digit : goal.returns-then-is_digit
 returns-then-is_digit c =
