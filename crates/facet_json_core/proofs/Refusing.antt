@@ -2,10 +2,10 @@
 use Rattle.std.proofs.Common.{◌≡◌, ◌⊎◌, inl, inr, ◌≤◌, ◌<◌, ◌+◌, ◌-◌, ◌^◌, ℕ, List, None, Some, true, refl, arith}
 use Rattle.std.specs.Prelude.{codes, min}
 use Rattle.facet_format.specs.Complaint.{Complaint, number_out_of_range, unexpected_eof, Refusal, refusal_at, no_memory}
-use Rattle.facet_format.specs.Cursor.{Call, Answer, spans}
+use Rattle.facet_format.specs.Cursor.{Call, Answer}
 use Rattle.facet_format.specs.Event.{Event}
 use Rattle.facet_format.specs.Span.{Span}
-use Rattle.facet_format.specs.Views.{answer_of_span, span_of as span_of_rust}
+use Rattle.facet_format.specs.Views.{span_of as span_of_rust}
 use Rattle.facet_format.specs.declared.span.Span.{Span as RustSpan}
 use Rattle.facet_json_grammar.specs.CallLaws.{refusal_in}
 use Rattle.facet_json_grammar.specs.Move.{Moves}
