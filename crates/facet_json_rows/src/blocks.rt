@@ -71,9 +71,7 @@ fn write_end(count: usize, end: &Ending, told: &mut Told) {
 fn end_of(alloc: Global, mode: Mode, parts: Parts<'_>, count: usize) -> Ending {
     let mut input = Told::new(alloc);
     input.say(parts.before);
-    for _ in 0..count {
-        input.say(parts.repeated);
-    }
+    input.repeat(parts.repeated, count);
     input.say(parts.after);
     let less = parts.repeated.len().saturating_mul(count);
     let alone = skip_end(alloc, mode, input.as_str(), less);

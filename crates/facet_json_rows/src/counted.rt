@@ -84,14 +84,11 @@ pub fn answer_count(alloc: Global, input: &[u8], told: &mut Told) {
         return told.line("DIFFERS: another reader");
     }
     match counted {
-        Ok(count) => told.show(&count),
-        Err(error) => return write_refused(&error, told),
+        Ok(count) => {
+            told.show(&count);
+            told.say(" events");
+        }
+        Err(error) => write_error(&error, told),
     }
-    told.line(" events");
-}
-
-/// Tells the refusal.
-fn write_refused(error: &ParseError<'_>, told: &mut Told) {
-    write_error(error, told);
     told.say("\n");
 }

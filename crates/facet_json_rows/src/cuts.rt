@@ -120,10 +120,6 @@ fn comes(parser: &mut JsonParser<'_>, len: usize) -> Option<Result<bool, ParseEr
 fn write_cut(cut: Cut, told: &mut Told) {
     match cut {
         Ok(passed) => write_passed(passed, told),
-        Err(error) => {
-            told.show(&error.kind.code());
-            told.say(" ");
-            told.span(error.span);
-        }
+        Err(error) => told.show_at(&error.kind.code(), error.span),
     }
 }

@@ -18,16 +18,8 @@ pub fn answer_long(alloc: Global, words: &str, text: &str, told: &mut Told) {
 fn push_parts(counts: &str, text: &str, input: &mut Told) {
     let (part, after) = text.split_once('|').unwrap_or((text, ""));
     let (count, count_after) = first_word(counts);
-    repeat(part, count, input);
-    repeat(after, count_after, input);
-}
-
-/// Appends the text as often as the count says.
-fn repeat(text: &str, count: &str, input: &mut Told) {
-    let count: usize = count.parse().unwrap_or(0);
-    for _ in 0..count {
-        input.say(text);
-    }
+    input.repeat(part, count.parse().unwrap_or(0));
+    input.repeat(after, count_after.parse().unwrap_or(0));
 }
 
 /// Tells what the command prints of the input.

@@ -1,7 +1,7 @@
 //! Answers of a parser as texts, so that all that is told of an input is one line.
 
 use crate::told::Told;
-use facet_format::{ParseError, ParseEvent, ParseEventKind, Span};
+use facet_format::{ParseError, ParseEvent, ParseEventKind};
 use facet_json::Answer;
 use std::alloc::Global;
 use std::collections::VecDeque;
@@ -82,15 +82,12 @@ fn write_answer(answer: &Answer<'_>, text: &mut Told) {
         }
         Answer::Skipped(Err(error)) | Answer::Raw(Err(error)) => write_error(error, text),
         Answer::Restored => text.say("restored"),
-        Answer::Span(Some(span)) => write_span("span ", *span, text),
+        Answer::Span(Some(span)) => {
+            text.say("span ");
+            text.span(*span);
+        }
         Answer::Span(None) => text.say("no span"),
     }
-}
-
-/// Writes a span behind what it is of.
-fn write_span(name: &str, span: Span, text: &mut Told) {
-    text.say(name);
-    text.span(span);
 }
 
 /// Writes an event and its span.
@@ -107,12 +104,12 @@ fn write_event(event: &ParseEvent<'_>, text: &mut Told) {
         }
         ParseEventKind::Scalar(value) => text.show(value),
     }
-    write_span(" ", event.span, text);
+    text.say(" ");
+    text.span(event.span);
 }
 
 /// Writes a refusal.
 pub fn write_error(error: &ParseError<'_>, text: &mut Told) {
     text.say("refused ");
-    text.show(&error.kind);
-    write_span(" ", error.span, text);
+    text.show_at(&error.kind, error.span);
 }

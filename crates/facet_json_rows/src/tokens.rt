@@ -7,9 +7,7 @@ use facet_json::scanner::{Mode, ScanError, ScanResult, Scanner, Token, cut};
 
 /// Tells a refusal: the kind, the offset of its bytes and their number.
 pub fn write_refusal(error: &ScanError, told: &mut Told) {
-    told.show(&error.kind);
-    told.say(" ");
-    told.span(error.span);
+    told.show_at(&error.kind, error.span);
     told.say("\n");
 }
 
@@ -17,9 +15,7 @@ pub fn write_refusal(error: &ScanError, told: &mut Told) {
 fn write_scanned(scanned: &ScanResult, told: &mut Told) {
     match scanned {
         Ok(found) => {
-            told.show(&found.token);
-            told.say(" ");
-            told.span(found.span);
+            told.show_at(&found.token, found.span);
             told.say("\n");
         }
         Err(error) => write_refusal(error, told),

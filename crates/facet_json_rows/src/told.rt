@@ -77,6 +77,20 @@ impl Told {
         }
     }
 
+    /// Appends the text so often.
+    pub fn repeat(&mut self, text: &str, count: usize) {
+        for _ in 0..count {
+            self.say(text);
+        }
+    }
+
+    /// Appends the value as it is shown to programmers, and the span that it is of.
+    pub fn show_at<T: Debug>(&mut self, value: &T, span: Span) {
+        self.show(value);
+        self.say(" ");
+        self.span(span);
+    }
+
     /// Appends where a span begins and how many bytes it has.
     pub fn span(&mut self, span: Span) {
         self.show(&span.offset);
