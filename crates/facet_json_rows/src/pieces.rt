@@ -1,9 +1,9 @@
 //! Whatever the pieces in which an input comes, a scanner returns what is cut of the whole.
 
-use crate::tokens::passed;
+use crate::tokens::{cut_at, passed};
 use crate::told::Told;
 use facet_json::Span;
-use facet_json::scanner::{Mode, ScanResult, Scanner, Token, cut};
+use facet_json::scanner::{Mode, ScanResult, Scanner, Token};
 
 /// What a call came to.
 #[derive(Clone, Copy)]
@@ -20,8 +20,9 @@ enum Outcome {
 
 /// Compares what was scanned with what is cut of the whole input at `start`.
 fn compare(scanned: &ScanResult, input: &[u8], start: usize, mode: Mode) -> Outcome {
-    if start > input.len() || *scanned != cut(input, start, mode) {
-        return Outcome::Differs;
+    match cut_at(input, start, mode) {
+        Some(found) if found == *scanned => {}
+        _ => return Outcome::Differs,
     }
     match passed(scanned) {
         Some(end) => Outcome::Token(end),

@@ -5,8 +5,9 @@ ghost use Rattle.std.specs.Prelude.{◌<◌};
 use crate::faults::{Ended, FaultyReader, Trial};
 use crate::pieces::write_other_pieces;
 use crate::told::Told;
+use crate::tokens::cut_at;
 use facet_json::scanner::{
-    Marked, Mode, ScanError, ScanReadError, Scanned, SpannedToken, Token, cut, scan_reader,
+    Marked, Mode, ScanError, ScanReadError, Scanned, SpannedToken, Token, scan_reader,
 };
 use std::alloc::Global;
 use std::io::{ErrorKind, Read};
@@ -98,29 +99,27 @@ fn is_whole(scan: &Result<Scanned, ScanReadError>, input: &[u8], mode: Mode) -> 
 fn are_cut(tokens: &[SpannedToken], refusal: &Option<ScanError>, input: &[u8], mode: Mode) -> bool {
     let mut position = 0;
     for token in tokens {
-        if position > input.len() || !is_token(token, input, position, mode) {
+        if !is_token(token, input, position, mode) {
             return false;
         }
         position = token.span.end();
     }
-    position <= input.len() && is_end(refusal, input, position, mode)
+    is_end(refusal, input, position, mode)
 }
 
 /// Whether the token is cut there.
 fn is_token(token: &SpannedToken, input: &[u8], position: usize, mode: Mode) -> bool {
-    position <= input.len()
-        && match cut(input, position, mode) {
-            Ok(found) => found.token != Token::Eof && found == *token,
-            Err(_) => false,
-        }
+    match cut_at(input, position, mode) {
+        Some(Ok(found)) => found.token != Token::Eof && found == *token,
+        _ => false,
+    }
 }
 
 /// Whether the refusal is cut there, or the end where there is none.
 fn is_end(refusal: &Option<ScanError>, input: &[u8], position: usize, mode: Mode) -> bool {
-    position <= input.len()
-        && match (cut(input, position, mode), refusal) {
-            (Ok(found), None) => found.token == Token::Eof,
-            (Err(found), Some(error)) => found == *error,
-            _ => false,
-        }
+    match (cut_at(input, position, mode), refusal) {
+        (Some(Ok(found)), None) => found.token == Token::Eof,
+        (Some(Err(found)), Some(error)) => found == *error,
+        _ => false,
+    }
 }

@@ -35,10 +35,9 @@ pub fn answer_tokens(word: &str, input: &[u8], told: &mut Told) {
 fn write_tokens(mode: Mode, input: &[u8], told: &mut Told) {
     let mut position = 0;
     for _ in 0..=input.len() {
-        if position > input.len() {
+        let Some(scanned) = cut_at(input, position, mode) else {
             break;
-        }
-        let scanned = cut(input, position, mode);
+        };
         write_scanned(&scanned, told);
         match passed(&scanned) {
             Some(end) => position = end,
@@ -46,6 +45,15 @@ fn write_tokens(mode: Mode, input: &[u8], told: &mut Told) {
         }
     }
     told.line("DIFFERS: tokens after the input");
+}
+
+/// What is cut of the input there; nothing where that is after its end.
+pub fn cut_at(input: &[u8], position: usize, mode: Mode) -> Option<ScanResult> {
+    if position <= input.len() {
+        Some(cut(input, position, mode))
+    } else {
+        None
+    }
 }
 
 /// Where the token ends; nothing of the end and of a refusal.
