@@ -113,7 +113,8 @@ pub fn compare(alloc: Global, modes: &[Mode], ways: &[Way<'_>], input: &[u8], wr
     let ([mode, ..], [way, ..]) = (modes, ways) else {
         return written.line("NO MODE");
     };
-    let told = tell(checked_reading(alloc, *mode, input), *way);
+    let mut told = Told::new(alloc);
+    ask(checked_reading(alloc, *mode, input), *way, &mut told);
     written.line(told.as_str());
     write_differences(alloc, modes, ways, input, told.as_str(), written);
 }
@@ -127,7 +128,8 @@ pub fn write_disagreement(
     written: &mut Told,
 ) {
     if let [way, ..] = ways {
-        let told = tell(checked_reading(alloc, mode, input), *way);
+        let mut told = Told::new(alloc);
+        ask(checked_reading(alloc, mode, input), *way, &mut told);
         write_differences(alloc, &[mode], ways, input, told.as_str(), written);
     }
 }
@@ -153,45 +155,32 @@ fn write_differences(
 ) {
     for mode in modes {
         for way in ways {
-            let checked = checked_reading(alloc, *mode, input);
-            write_difference(checked, *way, expected, written);
-            let is_trusted = true;
-            write_difference(
-                Reading {
-                    is_trusted,
-                    ..checked
-                },
-                *way,
-                expected,
-                written,
-            );
+            for is_trusted in &[false, true] {
+                let reading = Reading {
+                    alloc,
+                    mode: *mode,
+                    is_trusted: *is_trusted,
+                    input,
+                };
+                let mut told = Told::new(alloc);
+                ask(reading, *way, &mut told);
+                if told.as_str() != expected {
+                    write_difference(reading, *way, told.as_str(), written);
+                }
+            }
         }
     }
 }
 
-/// Tells what is told of the input where it isn't this.
-fn write_difference(reading: Reading<'_>, way: Way<'_>, expected: &str, written: &mut Told) {
-    let told = tell(reading, way);
-    if told.as_str() != expected {
-        for text in &["DIFFERS: ", reading.name(), ", ", way.name(), ": "] {
-            written.say(text);
-        }
-        written.line(told.as_str());
+/// Tells what is told of the input, behind how it is read and asked.
+fn write_difference(reading: Reading<'_>, way: Way<'_>, told: &str, written: &mut Told) {
+    for text in &["DIFFERS: ", reading.name(), ", ", way.name(), ": "] {
+        written.say(text);
     }
+    written.line(told);
 }
 
-/// What is told of the input.
-fn tell(reading: Reading<'_>, way: Way<'_>) -> Told {
-    let mut told = Told::new(reading.alloc);
-    match way {
-        Way::Cuts => tell_cuts(reading, &mut told),
-        Way::Tree => push_tree(reading, &mut told),
-        _ => ask(reading, way, &mut told),
-    }
-    told
-}
-
-/// Appends what a parser of the input tells when it is asked this way.
+/// Appends what is told of the input when it is asked this way.
 fn ask(reading: Reading<'_>, way: Way<'_>, told: &mut Told) {
     let (alloc, len) = (reading.alloc, reading.input.len());
     let parser = &mut reading.parser();
@@ -202,11 +191,18 @@ fn ask(reading: Reading<'_>, way: Way<'_>, told: &mut Told) {
             let calls = [Call::Events(len), Call::Events(0), Call::Next, Call::Span];
             push_answers(alloc, parser, &calls, Telling::New, told);
         }
-        Way::FirstByNext(count) => tell_first_by_next(alloc, parser, count, told),
-        Way::FirstByEvents(count) => tell_first_by_events(alloc, parser, count, told),
+        Way::FirstByNext(count) => {
+            tell_come(come_by_next(parser, count), told);
+            push_answers(alloc, parser, &AFTER, Telling::All, told);
+        }
+        Way::FirstByEvents(count) => {
+            tell_come_by_events(alloc, parser, count, told);
+            push_answers(alloc, parser, &AFTER, Telling::All, told);
+        }
         Way::ByCalls(calls) => push_answers(alloc, parser, calls, Telling::All, told),
         Way::ByUnread(call, is_peeked) => tell_parts(parser, call, is_peeked, len, told),
-        Way::Tree | Way::Cuts => {}
+        Way::Tree => push_tree(reading, told),
+        Way::Cuts => tell_cuts(reading, told),
     }
 }
 
@@ -219,15 +215,12 @@ fn push_answers(
     told: &mut Told,
 ) {
     match drive(alloc, parser, calls) {
-        Ok(answers) => push_each(alloc, answers.as_slice(), telling, told),
+        Ok(answers) => {
+            for answer in answers.as_slice() {
+                push_answer(alloc, answer, telling, told);
+            }
+        }
         Err(_) => told.lack(),
-    }
-}
-
-/// Appends the answers.
-fn push_each(alloc: Global, answers: &[Answer<'_>], telling: Telling, told: &mut Told) {
-    for answer in answers {
-        push_answer(alloc, answer, telling, told);
     }
 }
 
@@ -252,24 +245,32 @@ fn tell_by_peek_and_next(alloc: Global, parser: &mut JsonParser<'_>, len: usize,
     push_answers(alloc, parser, &[Call::Span], Telling::New, told);
 }
 
-/// How many of the first so many events come, and then the next one and the span.
-fn tell_first_by_next(alloc: Global, parser: &mut JsonParser<'_>, count: usize, told: &mut Told) {
+/// What is asked after the first events.
+static AFTER: [Call; 2] = [Call::Next, Call::Span];
+
+/// Appends that so many events came.
+fn tell_come(come: usize, told: &mut Told) {
+    told.show(&come);
+    told.say(" events");
+}
+
+/// How many of the first so many events come, one at a time.
+fn come_by_next(parser: &mut JsonParser<'_>, count: usize) -> usize {
     let mut come = 0_usize;
     for _ in 0..count {
         if matches!(next_span(parser), Ok(Some(_))) {
             come = come.saturating_add(1);
         }
     }
-    tell_rest(alloc, parser, come, told);
+    come
 }
 
-/// The same, all at once.
-fn tell_first_by_events(alloc: Global, parser: &mut JsonParser<'_>, count: usize, told: &mut Told) {
-    let come = match drive(alloc, parser, &[Call::Events(count)]) {
-        Ok(answers) => come_in(answers.as_slice()),
-        Err(_) => return told.lack(),
-    };
-    tell_rest(alloc, parser, come, told);
+/// Appends how many of the first so many events come, all at once.
+fn tell_come_by_events(alloc: Global, parser: &mut JsonParser<'_>, count: usize, told: &mut Told) {
+    match drive(alloc, parser, &[Call::Events(count)]) {
+        Ok(answers) => tell_come(come_in(answers.as_slice()), told),
+        Err(_) => told.lack(),
+    }
 }
 
 /// How many events the first answer has; none where it has other than it says.
@@ -278,13 +279,6 @@ fn come_in(answers: &[Answer<'_>]) -> usize {
         Some(Answer::Events(events, Ok(come))) if events.len() == *come => *come,
         _ => 0,
     }
-}
-
-/// That so many events came, and then the next one and the span.
-fn tell_rest(alloc: Global, parser: &mut JsonParser<'_>, come: usize, told: &mut Told) {
-    told.show(&come);
-    told.say(" events");
-    push_answers(alloc, parser, &[Call::Next, Call::Span], Telling::All, told);
 }
 
 /// Appends the tree or the refusal.

@@ -16,7 +16,11 @@ pub fn answer_cuts(alloc: Global, modes: &[Mode], input: &[u8], told: &mut Told)
     compare(alloc, modes, &[Way::Cuts], input, told);
     for mode in modes {
         for len in 0..=input.len() {
-            write_disagreements(alloc, *mode, &input[..len], told);
+            let prefix = &input[..len];
+            write_disagreement(alloc, *mode, &ALL_EVENTS, prefix, told);
+            for way in &UNREAD {
+                write_disagreement(alloc, *mode, &[*way], prefix, told);
+            }
         }
     }
 }
@@ -28,14 +32,6 @@ static UNREAD: [Way<'static>; 4] = [
     Way::ByUnread(Unread::Capture, false),
     Way::ByUnread(Unread::Capture, true),
 ];
-
-/// Tells where parsers of the input, or ways to ask them, tell different things.
-fn write_disagreements(alloc: Global, mode: Mode, input: &[u8], told: &mut Told) {
-    write_disagreement(alloc, mode, &ALL_EVENTS, input, told);
-    for way in &UNREAD {
-        write_disagreement(alloc, mode, &[*way], input, told);
-    }
-}
 
 /// Of each prefix of the input, the empty one first: how many events come, and then the end or the refusal; and what a skip and a
 /// capture of its root do, unless both are refused alike.
@@ -51,7 +47,10 @@ pub fn tell_cuts(reading: Reading<'_>, told: &mut Told) {
 
 /// What comes of a prefix.
 fn tell_cut(reading: Reading<'_>, told: &mut Told) {
-    let end = tell_events(&mut reading.parser(), reading.input.len(), told);
+    let (parser, len) = (&mut reading.parser(), reading.input.len());
+    told.show(&come_in(parser, len));
+    told.say(", ");
+    let end = end_of(parser, len);
     write_cut(end, told);
     let skip = passed_by(&mut reading.parser(), Unread::Skip);
     let capture = passed_by(&mut reading.parser(), Unread::Capture);
@@ -61,13 +60,6 @@ fn tell_cut(reading: Reading<'_>, told: &mut Told) {
         told.say(", ");
         write_cut(capture, told);
     }
-}
-
-/// Tells how many events come of a prefix of so many bytes, and answers the end or the refusal.
-fn tell_events(parser: &mut JsonParser<'_>, len: usize, told: &mut Told) -> Cut {
-    told.show(&come_in(parser, len));
-    told.say(", ");
-    end_of(parser, len)
 }
 
 /// Whether both are refusals of one number and span.

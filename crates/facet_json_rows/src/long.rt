@@ -11,7 +11,13 @@ pub fn answer_long(alloc: Global, words: &str, text: &str, told: &mut Told) {
     let (counts, command) = words.split_once(" | ").unwrap_or((words, ""));
     let mut input = Told::new(alloc);
     push_parts(counts, text, &mut input);
-    answer_command(alloc, command, input.as_str().as_bytes(), told);
+    let input = input.as_str().as_bytes();
+    let (name, words) = first_word(command);
+    match name {
+        "number" => answer_number(words, input, told),
+        "parser" => answer_parser(alloc, words, input, told),
+        _ => told.line("NO COMMAND"),
+    }
 }
 
 /// Appends the parts of the text before and after the `|`, each as often as its count says.
@@ -20,14 +26,4 @@ fn push_parts(counts: &str, text: &str, input: &mut Told) {
     let (count, count_after) = first_word(counts);
     input.repeat(part, count.parse().unwrap_or(0));
     input.repeat(after, count_after.parse().unwrap_or(0));
-}
-
-/// Tells what the command prints of the input.
-fn answer_command(alloc: Global, command: &str, input: &[u8], told: &mut Told) {
-    let (name, words) = first_word(command);
-    match name {
-        "number" => answer_number(words, input, told),
-        "parser" => answer_parser(alloc, words, input, told),
-        _ => told.line("NO COMMAND"),
-    }
 }

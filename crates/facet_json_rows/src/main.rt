@@ -28,21 +28,16 @@ use std::alloc::Global;
 use std::io;
 use std::io::{Read, Write};
 
-/// Tells a line of the rows again, and below a command line what it prints.
-fn answer_line(alloc: Global, line: &str, told: &mut Told) {
-    if line.is_empty() || line.starts_with('#') {
-        told.line(line);
-    } else {
-        told.say("$ ");
-        told.line(line);
-        row::answer(alloc, line, told);
-    }
-}
-
 /// Tells each line of the rows again, and below a command line what it prints.
 fn answer(alloc: Global, rows: &str, told: &mut Told) {
     for line in rows.lines() {
-        answer_line(alloc, line, told);
+        if line.is_empty() || line.starts_with('#') {
+            told.line(line);
+        } else {
+            told.say("$ ");
+            told.line(line);
+            row::answer(alloc, line, told);
+        }
     }
 }
 

@@ -29,7 +29,11 @@ pub fn answer(alloc: Global, row: &str, told: &mut Told) {
     let mut input = Vec::new(alloc);
     match parts(row) {
         Some((text, command)) if is_printed(text, &mut input) => {
-            answer_command(alloc, command, input.as_slice(), told);
+            let input = input.as_slice();
+            match command.strip_prefix("repeat ") {
+                Some(words) => answer_long(alloc, words, text_of(input), told),
+                None => answer_command(alloc, command, input, told),
+            }
         }
         Some(_) => told.line("NO TEXT"),
         None => told.line("NO ROW"),
@@ -76,11 +80,13 @@ fn answer_part(alloc: Global, name: &str, words: &str, input: &[u8], told: &mut 
         "count" => answer_count(alloc, input, told),
         "marked" => answer_marked(alloc, words, input, told),
         "derived" => answer_derived(alloc, words, told),
-        _ => {
-            let text = str::from_utf8(input).unwrap_or("");
-            answer_text(alloc, name, words, text, told);
-        }
+        _ => answer_text(alloc, name, words, text_of(input), told),
     }
+}
+
+/// The input as a text; the empty one where it is none.
+fn text_of(input: &[u8]) -> &str {
+    str::from_utf8(input).unwrap_or("")
 }
 
 /// Tells what a command prints that reads a text.
@@ -88,7 +94,6 @@ fn answer_text(alloc: Global, name: &str, words: &str, text: &str, told: &mut To
     match name {
         "scanner" => answer_scanner(words, text, told),
         "decode_repeated" => answer_repeated(alloc, words, text, told),
-        "repeat" => answer_long(alloc, words, text, told),
         "blocks" => answer_blocks(alloc, modes(words), text, told),
         "equal" => answer_equal(alloc, text, told),
         "write" => answer_write(alloc, words, text, told),

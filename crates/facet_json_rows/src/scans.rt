@@ -4,8 +4,8 @@ ghost use Rattle.std.specs.Prelude.{◌<◌};
 
 use crate::faults::{Ended, FaultyReader, Trial};
 use crate::pieces::write_other_pieces;
-use crate::told::Told;
 use crate::tokens::cut_at;
+use crate::told::Told;
 use facet_json::scanner::{
     Marked, Mode, ScanError, ScanReadError, Scanned, SpannedToken, Token, scan_reader,
 };

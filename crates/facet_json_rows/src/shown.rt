@@ -111,5 +111,7 @@ fn write_event(event: &ParseEvent<'_>, text: &mut Told) {
 /// Writes a refusal.
 pub fn write_error(error: &ParseError<'_>, text: &mut Told) {
     text.say("refused ");
-    text.show_at(&error.kind, error.span);
+    text.show(&error.kind);
+    text.say(" ");
+    text.span(error.span);
 }

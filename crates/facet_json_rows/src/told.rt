@@ -93,9 +93,9 @@ impl Told {
 
     /// Appends where a span begins and how many bytes it has.
     pub fn span(&mut self, span: Span) {
-        self.show(&span.offset);
-        self.say("+");
-        self.show(&span.len);
+        if write!(self.text, "{}+{}", span.offset, span.len).is_err() {
+            self.lack();
+        }
     }
 
     /// Appends the text, and a line feed where its last line lacks one.
