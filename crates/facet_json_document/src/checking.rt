@@ -10,7 +10,7 @@ ghost use Rattle.facet_json_token.specs.Tokens.{ended};
 ghost use Rattle.facet_json_token.specs.Views.{mode_of};
 ghost use Rattle.facet_json_document.specs.Formatted.{GetsStuck, BeginsDocument, HasOneDocument, LacksOrGetsStuck, LacksOrRefusesOne};
 ghost use Rattle.facet_json_grammar.specs.Move.{Moves};
-ghost use Rattle.facet_json_grammar.specs.Now.{ahead, fresh, current_span_of as last_read};
+ghost use Rattle.facet_json_grammar.specs.Now.{ahead, fresh};
 ghost use Rattle.facet_json_grammar.specs.PrefixRefusal.{Refuses};
 ghost use Rattle.facet_json_document.specs.Inner.Checking.{IsStuckBehind, PassesUp, Told};
 ghost use Rattle.facet_json_grammar.specs.StrictDocument.{IsStrict};

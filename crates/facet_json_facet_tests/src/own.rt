@@ -1,15 +1,13 @@
 //! A type of a user's own: what it reads and writes is proved from what the trait says of the type within it.
 
-ghost use Rattle.std.specs.Prelude.{◌≡◌, ◌≤◌, Some, length};
-ghost use Rattle.facet_format.specs.Span.{stop};
+ghost use Rattle.std.specs.Prelude.{◌≡◌, Some};
 ghost use Rattle.facet_format.specs.Views.{refusal_of, span_of};
-ghost use Rattle.facet_json_grammar.specs.Now.{current_span_of as last_read};
 ghost use Rattle.facet_json_core.specs.Refusing.{IsAbout};
 
 use crate::readers::By;
 use crate::rows::{Case, Told, expect};
 use crate::typed::expect_value;
-use facet_format::{DeserializeError, DeserializeErrorKind, FormatParser, Span};
+use facet_format::{DeserializeError, DeserializeErrorKind, Span};
 use facet_json_core::last_span;
 use facet_json_facet::Facet;
 use facet_json_parser::JsonParser;

@@ -1,12 +1,11 @@
 //! Fields of structs, in the order in which a table names them.
 
-ghost use Rattle.std.specs.Prelude.{◌≡◌, ◌≤◌, ◌<◌, false, cond, length, None, Some, IfOk, IfErr, OnOk};
+ghost use Rattle.std.specs.Prelude.{◌≡◌, ◌<◌, false, cond, None, Some, IfOk, IfErr, OnOk};
 ghost use Rattle.std.specs.Option.{option_map, IfSome};
 ghost use Rattle.std.specs.Str.{bytes_eq};
 ghost use Rattle.facet_format.specs.Complaint.{missing_field, refusal_at};
-ghost use Rattle.facet_format.specs.Span.{stop};
 ghost use Rattle.facet_format.specs.Views.{refusal_of, span_of};
-ghost use Rattle.facet_json_grammar.specs.Now.{ahead, current_span_of as last_read};
+ghost use Rattle.facet_json_grammar.specs.Now.{ahead};
 ghost use Rattle.facet_json_grammar.specs.UnreadLaws.{RefusalWithin};
 ghost use Rattle.facet_json_core.specs.Meaning.Nodes.{KeepsOn};
 ghost use Rattle.facet_json_core.specs.Meaning.OneValue.{PassesValue, IsAfterKey};
@@ -15,7 +14,7 @@ ghost use Rattle.facet_json_core.specs.Refusing.{TellsRefusal};
 ghost use Rattle.facet_json_fields.specs.Fields.{field_step, keys, table, fields_of, begins_with, first_name, other_names, joined};
 ghost use Rattle.facet_json_fields.specs.Fields.{LacksField};
 
-use facet_format::{DeserializeError, DeserializeErrorKind, FormatParser, Span};
+use facet_format::{DeserializeError, DeserializeErrorKind, Span};
 use facet_json_core::last_span;
 use facet_json_core::steps::{begin_object, next_name, pass_value};
 use facet_json_facet::{Facet, value_in};

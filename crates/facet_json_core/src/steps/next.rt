@@ -1,13 +1,11 @@
 //! The next event of a value that is read.
 
-ghost use Rattle.std.specs.Prelude.{◌≡◌, ◌≤◌, ◌<◌, ◌+◌, true, false, None, Some, length, codes, IfOk, IfErr, OnOk, MatchOption};
-ghost use Rattle.facet_format.specs.Span.{stop};
+ghost use Rattle.std.specs.Prelude.{◌≡◌, ◌<◌, true, false, None, Some, codes, IfOk, IfErr, OnOk, MatchOption};
 ghost use Rattle.facet_format.specs.Views.{event_of, span_of};
 ghost use Rattle.facet_json_core.specs.Meaning.Taking.{StaysBefore, TakesNext, TakesSought};
 ghost use Rattle.facet_json_grammar.specs.Now.{GoesOn};
-ghost use Rattle.facet_json_grammar.specs.Next.{PassesNext};
 ghost use Rattle.facet_json_core.specs.Refusing.{mismatch_of};
-ghost use Rattle.facet_json_core.specs.Meaning.Passing.{WalksPast, LacksAlone, PassesNull, LacksNull};
+ghost use Rattle.facet_json_core.specs.Meaning.Passing.{LacksAlone, PassesNull, LacksNull};
 ghost use Rattle.facet_json_reader.specs.declared.sought.Sought.TheVariants as sought;
 ghost use Rattle.facet_json_core.specs.Meaning.OneValue.{LooksAhead};
 ghost use Rattle.facet_json_core.specs.Meaning.Optional.{is_null_event};
