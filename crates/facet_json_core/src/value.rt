@@ -201,9 +201,12 @@ pub fn next_of_value<'t, 'de>(
     ensures onward { GoesOn parser.old parser.new }
     ensures shorter { OnOk result (ahead parser.new < ahead parser.old) }
     ensures passed { IfOk result (λ e. PassesNext parser.old (event_of e) parser.new) }
+    ensures steps { IfOk result (λ e. IsStep StandsAt parser.old next (event (Ok (Some (event_of e)))) parser.new) }
+    ensures moves { IfOk result (λ e. Moves parser.old next (event (Ok (Some (event_of e)))) parser.new) }
     ensures walks { IfOk result (λ e. WalksPast parser.old (event_of e) parser.new) }
     ensures by_kind { IfOk result (λ e. PassesByKind (event_of e).kind parser.old parser.new) }
     ensures event_within { IfOk result (λ e. stop (event_of e).span ≤ length parser.new.buffer) }
+    ensures refused { parser.old.cursor.refusal ≡ None → IfErr result (λ e. GivesNone parser.old (refusal_of e)) }
     ensures lacks { IfErr result (λ e. LacksAlone parser.old (refusal_of e)) }
     ensures within { IfErr result (λ e. RefusalWithin parser.new.buffer (refusal_of e)) }
     ensures tells { IfErr result (λ e. TellsRefusal parser.old parser.new (refusal_of e)) }

@@ -18,7 +18,14 @@ use facet_format::{DeserializeError, ParseEvent, ParseEventKind, ScalarValue, Sp
 use facet_json_parser::{JsonParser, comes_other, next_wanted};
 use facet_json_reader::{Null, Sought, Wanted};
 
-/// Passes what is wanted and answers it with its event's span, where a few bytes decide that it comes. Else nothing changes.
+/// Passes what is wanted and answers it with its event's span, where a few bytes decide that it comes. Else nothing changes: the next event
+/// may still be what is wanted, and `next_of_value` tells. It allocates nothing.
+///
+/// ```text
+/// let taken: Option<(bool, Span)> = take_next(&mut parser)
+///     behind the bracket of [true]    Some((true, 1+4))
+///     before it                       None: the bracket is still the next event
+/// ```
 #[inline(always)]
 pub fn take_next<'de, W: Wanted<'de>>(parser: &mut JsonParser<'de>) -> Option<(W, Span)>
     ensures { MatchOption result (parser.new ≡ parser.old)
