@@ -1,7 +1,8 @@
 //! Texts laid out anew: worked rows, what is refused, and that a text laid out stays as it is.
 
 use crate::expecting::expect_that;
-use crate::rows::{Case, Told, answer_of};
+use crate::typed::refusal;
+use facet_format::{DeserializeError, DeserializeErrorKind, Span};
 use facet_json::scanner::Mode;
 use facet_json::{FormatOptions, Indent, format_text, format_text_strict};
 use std::alloc::{AllocError, Global};
@@ -100,39 +101,65 @@ fn texts_are_laid_out(rt: HostRuntime) {
     }
 }
 
+/// What stands where no document goes on.
+enum Wrong {
+    /// A token of this name, behind the document.
+    Token(&'static str),
+    /// A byte with which no token goes on.
+    Byte(char),
+}
+
+/// A text, what is wrong with it, and where that stands: an offset and a length.
+type Refused = (&'static str, Wrong, usize, usize);
+
 /// What is refused where comments may not stand.
-static REFUSED: [Case<'static>; 4] = [
-    ("[1] 2", Told::Token("U64", "end of input"), 4, 1),
-    ("[1],", Told::Token("Comma", "end of input"), 3, 1),
-    ("[1] // a", Told::Byte('/'), 4, 1),
-    ("[1 x", Told::Byte('x'), 3, 1),
+static REFUSED: [Refused; 4] = [
+    ("[1] 2", Wrong::Token("U64"), 4, 1),
+    ("[1],", Wrong::Token("Comma"), 3, 1),
+    ("[1] // a", Wrong::Byte('/'), 4, 1),
+    ("[1 x", Wrong::Byte('x'), 3, 1),
 ];
 
 /// What is refused where RFC 8259 alone is read.
-static REFUSED_STRICTLY: [Case<'static>; 2] = [
-    ("1 2", Told::Token("U64", "end of input"), 2, 1),
-    ("007", Told::Byte('?'), 0, 3),
+static REFUSED_STRICTLY: [Refused; 2] = [
+    ("1 2", Wrong::Token("U64"), 2, 1),
+    ("007", Wrong::Byte('?'), 0, 3),
 ];
 
+/// How the row's text is refused.
+fn refusal_of(row: &Refused) -> DeserializeError<'static> {
+    let kind = match row.1 {
+        Wrong::Token(got) => DeserializeErrorKind::UnexpectedToken {
+            got,
+            expected: "end of input",
+        },
+        Wrong::Byte(ch) => DeserializeErrorKind::UnexpectedChar {
+            ch,
+            expected: "valid JSON token",
+        },
+    };
+    refusal(kind, Span::new(row.2, row.3))
+}
+
 /// Whether the text is refused so, where RFC 8259 alone is read or not.
-fn is_refused(alloc: Global, case: &Case<'_>, is_strict: bool) -> bool {
-    let text = case.0.as_bytes();
+fn is_refused(alloc: Global, row: &Refused, is_strict: bool) -> bool {
+    let text = row.0.as_bytes();
     let options = FormatOptions::new();
     let answer = if is_strict {
         format_text_strict(alloc, text, options)
     } else {
         format_text(alloc, text, Mode::Plain, options)
     };
-    answer.err() == answer_of(case).err()
+    answer.err() == Some(refusal_of(row))
 }
 
 #[test]
 fn what_is_no_document_alone_is_refused(rt: HostRuntime) {
-    for case in &REFUSED {
-        expect_that(&rt, is_refused(rt.alloc(), case, false), case.0);
+    for row in &REFUSED {
+        expect_that(&rt, is_refused(rt.alloc(), row, false), row.0);
     }
-    for case in &REFUSED_STRICTLY {
-        expect_that(&rt, is_refused(rt.alloc(), case, true), case.0);
+    for row in &REFUSED_STRICTLY {
+        expect_that(&rt, is_refused(rt.alloc(), row, true), row.0);
     }
 }
 

@@ -1,8 +1,6 @@
 //! Values of each length around the widths that are read at once, and what only begins as one of them.
 
 use crate::expecting::expect_that;
-use crate::readers::By;
-use crate::rows::{Case, Told, expect};
 use facet_format::DeserializeError;
 use facet_json::{from_str, from_str_borrowed};
 use std::alloc::Global;
@@ -73,31 +71,6 @@ fn is_number(alloc: Global, digits: &str) -> bool {
     from_str(alloc, digits) == Ok(number_of(digits)) && is_negative(alloc, digits)
 }
 
-/// What only begins as a number.
-static NO_NUMBERS: [Case<'static>; 4] = [
-    ("[1.5                 ]", Told::Other("u8", "decimal"), 1, 3),
-    ("[1e1                 ]", Told::Other("u8", "decimal"), 1, 3),
-    (
-        "[1}                  ]",
-        Told::Token("ObjectEnd", "',' or ']'"),
-        2,
-        1,
-    ),
-    ("[256                 ]", Told::Range("u8"), 1, 3),
-];
-
-/// What only begins as `null`.
-static NO_NULLS: [Case<'static>; 2] = [
-    ("[nullx               ]", Told::Byte('x'), 5, 1),
-    ("[nul                 ]", Told::Byte(' '), 4, 1),
-];
-
-/// What only begins as a truth value.
-static NO_TRUTHS: [Case<'static>; 1] = [("[truth               ]", Told::Byte('t'), 4, 1)];
-
-/// What only begins as a text.
-static NO_TEXTS: [Case<'static>; 1] = [("[\"a                  ]", Told::End("in string"), 1, 21)];
-
 #[test]
 fn values_of_each_length_are_read(rt: HostRuntime) {
     let alloc = rt.alloc();
@@ -109,8 +82,4 @@ fn values_of_each_length_are_read(rt: HostRuntime) {
         let digits = DIGITS.get(..len).unwrap_or("");
         expect_that(&rt, is_number(alloc, digits), digits);
     }
-    expect::<Vec<u8>>(&rt, alloc, By::Each, &NO_NUMBERS);
-    expect::<Vec<Option<u8>>>(&rt, alloc, By::Each, &NO_NULLS);
-    expect::<Vec<bool>>(&rt, alloc, By::Each, &NO_TRUTHS);
-    expect::<Vec<String>>(&rt, alloc, By::Each, &NO_TEXTS);
 }

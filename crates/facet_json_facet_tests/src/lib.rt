@@ -1,25 +1,13 @@
-//! Tests of `facet_json_facet`, `facet_json` and `facet_json_examples`: with ample memory each type is read and written, refusals are told as
-//! they should be, failed allocations change nothing else, and types of a user's own are read and written too.
+//! Tests of `facet_json_facet`, `facet_json` and `facet_json_examples`, with ample memory and with failed allocations. What values are read of
+//! which texts, the rows of `facet_json_rows` say.
 #![tactic(auto)]
 
-#[cfg(test)]
-mod accounts;
 #[cfg(test)]
 mod allocations;
 #[cfg(test)]
 mod checking;
 #[cfg(test)]
-mod containers;
-#[cfg(test)]
-mod document_depths;
-#[cfg(test)]
-mod document_pointers;
-#[cfg(test)]
-mod document_raw;
-#[cfg(test)]
-mod document_texts;
-#[cfg(test)]
-mod document_values;
+mod documents;
 #[cfg(test)]
 mod driving;
 #[cfg(test)]
@@ -45,26 +33,12 @@ mod lines;
 #[cfg(test)]
 mod made;
 #[cfg(test)]
-mod numbers;
-#[cfg(test)]
-mod own;
-#[cfg(test)]
 mod prefix;
-#[cfg(test)]
-mod readers;
 #[cfg(test)]
 mod records;
 #[cfg(test)]
-mod refusals;
-#[cfg(test)]
 mod rewriting;
 #[cfg(test)]
-mod rows;
-#[cfg(test)]
-mod strict;
-#[cfg(test)]
 mod texts;
-#[cfg(test)]
-mod told;
 #[cfg(test)]
 mod typed;

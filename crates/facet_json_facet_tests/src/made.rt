@@ -1,6 +1,6 @@
 //! Trees that are written down where they are needed, by `tree!`: each is the tree of its text.
 
-use crate::document_pointers::is_of;
+use crate::documents::is_of;
 use facet_json::{Tree, tree};
 use std::alloc::{AllocError, Global};
 use std::process::Abort;

@@ -1,8 +1,6 @@
 //! Values with where their documents end, and documents one after another.
 
 use crate::expecting::expect_that;
-use crate::readers::By;
-use crate::rows::{Case, Told, expect};
 use facet_format::Span;
 use facet_json::{Documents, from_slice_prefix, from_str_prefix};
 use std::alloc::Global;
@@ -58,13 +56,6 @@ fn behind<'i>(alloc: Global, input: &'i [u8], texts: &[&str]) -> Option<&'i [u8]
     Some(left)
 }
 
-/// What begins no number.
-static NO_NUMBERS: [Case<'static>; 3] = [
-    ("", Told::End("value"), 0, 0),
-    (" ", Told::End("value"), 1, 0),
-    ("300 1", Told::Range("u8"), 0, 3),
-];
-
 #[test]
 fn values_end_where_they_do(rt: HostRuntime) {
     let alloc = rt.alloc();
@@ -74,7 +65,6 @@ fn values_end_where_they_do(rt: HostRuntime) {
     for &(input, end) in &LISTS {
         expect_that(&rt, list_end(alloc, input) == Some(end), input);
     }
-    expect::<u8>(&rt, alloc, By::Lenient, &NO_NUMBERS);
 }
 
 /// Inputs of numbers one after another: their sum, how many there are before a refusal or the end, the offset up to which the input was read

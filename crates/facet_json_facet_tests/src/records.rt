@@ -1,44 +1,14 @@
 //! Structs of two fields: they are read from objects by a table of their fields, and written call by call.
 
 use crate::expecting::expect_that;
-use crate::lent;
-use crate::readers::By;
-use crate::rows::{Case, Told, expect};
 use crate::typed::is_written;
 use facet_format::{DeserializeError, FormatSerializer};
 use facet_json::{Done, Need, read_fields};
 use facet_json_core::RawJson;
-use facet_json_examples::records::{Person, Response};
 use facet_json_facet::Facet;
 use facet_json_parser::JsonParser;
 use facet_json_serializer::{JsonSerializeError, JsonSerializer};
 use std::alloc::Global;
-
-/// Objects that are read as persons, how these are written, and such as lack a field: the first one that they lack, at their end.
-#[rattlefmt::skip]
-static PERSONS: [Case<'static>; 9] = [
-    ("{\"name\": \"Alice\", \"age\": 30}", Told::Value("{\"name\":\"Alice\",\"age\":30}"), 0, 0),
-    ("{\"age\":30,\"extra\":{\"a\":[1,2]},\"name\":\"Alice\"}", Told::Value("{\"name\":\"Alice\",\"age\":30}"), 0, 0),
-    ("{\"x\":\"\\ud800\",\"name\":\"A\",\"\":[1 2:],\"age\":1,}", Told::Value("{\"name\":\"A\",\"age\":1}"), 0, 0),
-    ("{\"age\":1,\"name\":\"A\",\"age\":2,\"name\":\"B\"}", Told::Value("{\"name\":\"B\",\"age\":2}"), 0, 0),
-    ("{\"n\\u0061me\":\"A\",\"age\":4294967295}", Told::Value("{\"name\":\"A\",\"age\":4294967295}"), 0, 0),
-    ("{\"name\":\"Alice\"}", Told::Missing("age"), 15, 1),
-    ("{\"age\":30}", Told::Missing("name"), 9, 1),
-    ("{}", Told::Missing("name"), 1, 1),
-    (" {\"Name\":\"Alice\",\"ag\":{} }", Told::Missing("name"), 25, 1),
-];
-
-/// Responses: whatever stands under `data` stays as it stands there. And one without it.
-#[rattlefmt::skip]
-static RESPONSES: [Case<'static>; 2] = [
-    (
-        "{\"status\": 200, \"data\": {\"nested\": [1, 2, 3], \"complex\": true}}",
-        Told::Value("{\"status\":200,\"data\":{\"nested\": [1, 2, 3], \"complex\": true}}"),
-        0,
-        0,
-    ),
-    ("{\"status\":200 }", Told::Missing("data"), 14, 1),
-];
 
 /// Reads a point, as `{"x":10,"y":20}`.
 fn read_point<'t>(
@@ -60,9 +30,6 @@ fn is_point(alloc: Global, input: &str, across: i32, down: i32) -> bool {
 #[test]
 fn structs_are_read(rt: HostRuntime) {
     let alloc = rt.alloc();
-    expect::<Person>(&rt, alloc, By::Lenient, &PERSONS);
-    expect::<lent::Person<'static>>(&rt, alloc, By::Borrowed, &PERSONS);
-    expect::<Response<RawJson<'static>>>(&rt, alloc, By::Borrowed, &RESPONSES);
     let point = "{\"x\": 10, \"y\": 20}";
     expect_that(&rt, is_point(alloc, point, 10, 20), point);
 }

@@ -1,10 +1,11 @@
 //! The skip of a value whose bytes stand at each place of the windows and blocks that it is passed by.
 
-use crate::compared::{Mode, Reading};
-use crate::shown::write_error;
-use crate::told::Told;
+use crate::compared::Reading;
 use crate::unread::{Passed, Unread, passed_by};
 use facet_format::{ParseError, Span};
+use facet_json_row_values::shown::write_error;
+use facet_json_row_values::told::Told;
+use facet_json_row_values::words::Mode;
 use std::alloc::Global;
 
 /// How often a part is repeated at most: over two blocks of sixty-four, and a little more.

@@ -1,9 +1,10 @@
 //! What RFC 8259 asks of strings' contents and of numbers, beyond what makes them tokens.
 
-use crate::row::{first_word, range};
+use crate::row::range;
 use crate::tokens::write_refusal;
-use crate::told::Told;
 use facet_json::scanner::{check_number_strict, check_string_strict};
+use facet_json_row_values::told::Told;
+use facet_json_row_values::words::first_word;
 
 /// Tells whether a range of the buffer passes a check, or the refusal: `string` or `number`, and perhaps `START..END`.
 pub fn answer_check(words: &str, buffer: &[u8], told: &mut Told) {

@@ -1,24 +1,14 @@
 //! What parsers tell of an input: each mode, trusted and checking parsers, and each way to ask tell the same.
 
 use crate::cuts::tell_cuts;
-use crate::shown::{Telling, push, push_answer};
-use crate::told::Told;
 use crate::unread::{Unread, next_span, tell_parts};
 use facet_json::{
     Answer, Call, JsonParser, drive, tree_from_slice, tree_from_slice_jsonc, tree_from_slice_strict,
 };
+use facet_json_row_values::shown::{Telling, push, push_answers};
+use facet_json_row_values::told::Told;
+use facet_json_row_values::words::Mode;
 use std::alloc::Global;
-
-/// What a parser takes as a document.
-#[derive(Clone, Copy)]
-pub enum Mode {
-    /// The lenient readings of RFC 8259.
-    Plain,
-    /// The same, with comments.
-    Jsonc,
-    /// RFC 8259 alone.
-    Strict,
-}
 
 /// An input, and how it is read.
 #[derive(Clone, Copy)]
@@ -203,24 +193,6 @@ fn ask(reading: Reading<'_>, way: Way<'_>, told: &mut Told) {
         Way::ByUnread(call, is_peeked) => tell_parts(parser, call, is_peeked, len, told),
         Way::Tree => push_tree(reading, told),
         Way::Cuts => tell_cuts(reading, told),
-    }
-}
-
-/// Appends the answers to the calls.
-fn push_answers(
-    alloc: Global,
-    parser: &mut JsonParser<'_>,
-    calls: &[Call],
-    telling: Telling,
-    told: &mut Told,
-) {
-    match drive(alloc, parser, calls) {
-        Ok(answers) => {
-            for answer in answers.as_slice() {
-                push_answer(alloc, answer, telling, told);
-            }
-        }
-        Err(_) => told.lack(),
     }
 }
 

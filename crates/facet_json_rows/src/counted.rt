@@ -3,10 +3,10 @@
 ghost use Rattle.facet_json.specs.Now.{ahead};
 ghost use Rattle.std.specs.Prelude.{◌≡◌, ◌+◌, ◌^◌, ◌<◌, ◌≤◌, IfOk, length};
 
-use crate::shown::write_error;
-use crate::told::Told;
 use facet_format::{DeserializeError, FormatParser, ParseError};
 use facet_json::JsonParser;
+use facet_json_row_values::shown::write_error;
+use facet_json_row_values::told::Told;
 use std::alloc::Global;
 
 /// How many events come: no more than what is passed of the input.

@@ -1,11 +1,12 @@
 //! Inputs cut after each of their bytes.
 
-use crate::compared::{Mode, Reading, Way, compare, write_disagreement};
+use crate::compared::{Reading, Way, compare, write_disagreement};
 use crate::row::ALL_EVENTS;
-use crate::told::Told;
 use crate::unread::{Passed, Unread, last_span, next_span, passed_by, write_passed};
 use facet_format::{ParseError, Span};
 use facet_json::JsonParser;
+use facet_json_row_values::told::Told;
+use facet_json_row_values::words::Mode;
 use std::alloc::Global;
 
 /// What is passed of a prefix, or the refusal.

@@ -4,12 +4,13 @@ ghost use Rattle.std.specs.Prelude.{◌≤◌, length, slice_range, IsUtf8};
 
 use crate::row::range;
 use crate::tokens::write_refusal;
-use crate::told::Told;
 use facet_json::scanner::{
     DecodeError, check_content, decode_string, decode_string_borrowed,
     decode_string_borrowed_unchecked, decode_string_owned, decode_string_owned_unchecked,
     decode_string_unchecked,
 };
+use facet_json_row_values::marks::mark;
+use facet_json_row_values::told::Told;
 use std::alloc::Global;
 use std::borrow::CowStr;
 
@@ -37,6 +38,50 @@ pub fn answer_decode(alloc: Global, words: &str, buffer: &[u8], told: &mut Told)
     }
 }
 
+/// Tells what each decoder makes of a content: as one with escapes in memory of its own, the same by the decoder that lends others, and as
+/// one without; and the same by those for UTF-8. The requests for memory of all these calls stand between two marks.
+pub fn answer_decoders(alloc: Global, buffer: &[u8], told: &mut Told) {
+    let end = buffer.len();
+    match str::from_utf8(&buffer[0..end]) {
+        Ok(_) => {
+            mark(alloc);
+            let made = decode_string_owned(alloc, buffer, 0, end);
+            let owned = decode_string(alloc, buffer, 0, end, true);
+            let lent = decode_string(alloc, buffer, 0, end, false);
+            let made_unchecked = decode_string_owned_unchecked(alloc, buffer, 0, end);
+            let owned_unchecked = decode_string_unchecked(alloc, buffer, 0, end, true);
+            let lent_unchecked = decode_string_unchecked(alloc, buffer, 0, end, false);
+            mark(alloc);
+            write_owned(&made, told);
+            write_decoded(&owned, told);
+            write_decoded(&lent, told);
+            write_owned(&made_unchecked, told);
+            write_decoded(&owned_unchecked, told);
+            write_decoded(&lent_unchecked, told);
+        }
+        Err(_) => told.line("NO TEXT"),
+    }
+}
+
+/// Tells a text, or why there is none.
+fn write_owned(made: &Owned, told: &mut Told) {
+    match made {
+        Ok(text) => {
+            told.say("owned ");
+            told.show_line(text);
+        }
+        Err(error) => write_refused(error, told),
+    }
+}
+
+/// Tells why a content is not decoded.
+fn write_refused(error: &DecodeError, told: &mut Told) {
+    match error {
+        DecodeError::Scan(error) => write_refusal(error, told),
+        DecodeError::OutOfMemory => told.line("out of memory"),
+    }
+}
+
 fn write_decoded(decoded: &Result<CowStr<'_>, DecodeError>, told: &mut Told) {
     match decoded {
         Ok(CowStr::Borrowed(text)) => {
@@ -47,8 +92,7 @@ fn write_decoded(decoded: &Result<CowStr<'_>, DecodeError>, told: &mut Told) {
             told.say("owned ");
             told.show_line(text);
         }
-        Err(DecodeError::Scan(error)) => write_refusal(error, told),
-        Err(DecodeError::OutOfMemory) => told.line("out of memory"),
+        Err(error) => write_refused(error, told),
     }
 }
 

@@ -1,6 +1,5 @@
 //! What the public types derive: copies, equality and how they are shown.
 
-use crate::told::Told;
 use facet_format::numeral::NumberHint;
 use facet_format::{DeserializeErrorKind, Span};
 use facet_json::scanner::{
@@ -9,6 +8,7 @@ use facet_json::scanner::{
 use facet_json::{
     Answer, Call, JsonParser, JsonSerializeError, MaterializedToken, RawJson, TokenKind,
 };
+use facet_json_row_values::told::Told;
 use std::alloc::Global;
 use std::fmt::Debug;
 

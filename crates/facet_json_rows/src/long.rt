@@ -1,8 +1,11 @@
 //! Long inputs.
 
 use crate::numbers::answer_number;
-use crate::row::{answer_parser, first_word};
-use crate::told::Told;
+use crate::row::answer_parser;
+use facet_json_row_values::documents::answer_document;
+use facet_json_row_values::readings::answer_read_tree;
+use facet_json_row_values::told::Told;
+use facet_json_row_values::words::first_word;
 use std::alloc::Global;
 
 /// Tells what a command prints of a long input, `COUNT COUNT | COMMAND`: the parts of the text before and after its `|`, each
@@ -15,7 +18,9 @@ pub fn answer_long(alloc: Global, words: &str, text: &str, told: &mut Told) {
     let (name, words) = first_word(command);
     match name {
         "number" => answer_number(words, input, told),
+        "read_tree" => answer_read_tree(alloc, words, input, told),
         "parser" => answer_parser(alloc, words, input, told),
+        "document" => answer_document(alloc, words, input, told),
         _ => told.line("NO COMMAND"),
     }
 }

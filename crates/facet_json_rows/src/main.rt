@@ -17,13 +17,10 @@ mod printf;
 mod program;
 mod row;
 mod scans;
-mod shown;
 mod tokens;
-mod told;
-mod trees;
 mod unread;
 
-use crate::told::Told;
+use facet_json_row_values::told::Told;
 use std::alloc::Global;
 use std::io;
 use std::io::{Read, Write};

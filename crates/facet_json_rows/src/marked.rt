@@ -1,30 +1,28 @@
 //! Calls whose requests for memory stand between two marks, so that `checks/allocations` can refuse each of these and no other.
 
-use crate::compared::{Mode, Reading};
+use crate::compared::Reading;
 use crate::pieces::agree;
-use crate::row::{first_word, modes};
+use crate::row::text_of;
 use crate::scans::scan_of;
-use crate::shown::{Telling, push_answer};
-use crate::told::Told;
 use facet_format::{FormatParser, ParseError, ParseEvent};
 use facet_json::scanner::Mode as Gaps;
 use facet_json::{Answer, Call, JsonParser, drive};
 use facet_json_command::script::parse_script;
+use facet_json_row_values::marks::mark;
+use facet_json_row_values::shown::{Telling, push_answer};
+use facet_json_row_values::told::Told;
+use facet_json_row_values::types::answer_marked_read;
+use facet_json_row_values::words::{Mode, first_word, modes};
 use std::alloc::{AllocError, Global};
 use std::collections::VecDeque;
 
-/// More bytes than any system grants.
-const MARK: usize = 1 << 62;
-
-/// Marks where the requests that may be refused begin or end, by a request that always is.
-fn mark(alloc: Global) {
-    let granted: Result<Vec<u8>, AllocError> = Vec::with_capacity(alloc, MARK);
-    let _ = granted;
-}
-
-/// Tells what the calls answer: `parser MODE TRUST SCRIPT`, `queue MODE TRUST LIMIT`, `scan MODE STEP` or `scanner`.
+/// Tells what the calls answer: `parser MODE TRUST SCRIPT`, `queue MODE TRUST LIMIT`, `scan MODE STEP` or `scanner`; or
+/// `read ENTRY TYPE`.
 pub fn answer_marked(alloc: Global, words: &str, input: &[u8], told: &mut Told) {
     let (name, words) = first_word(words);
+    if name == "read" {
+        return answer_marked_read(alloc, words, text_of(input), told);
+    }
     let (mode, words) = first_word(words);
     let Some(mode) = modes(mode).first() else {
         return told.line("NO MODE");

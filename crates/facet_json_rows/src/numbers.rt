@@ -2,12 +2,13 @@
 
 ghost use Rattle.std.specs.Prelude.{◌≤◌, length};
 
-use crate::row::{first_word, range};
+use crate::row::range;
 use crate::tokens::write_refusal;
-use crate::told::Told;
 use facet_json::scanner::{
     NumberHint, ParsedNumber, ScanError, parse_number, parse_number_unchecked,
 };
+use facet_json_row_values::told::Told;
+use facet_json_row_values::words::first_word;
 
 /// Tells the number at a range of the buffer, or the refusal: `HINT` or `HINT START..END`. Where the reader of text that is known to be
 /// UTF-8 reads another, that is told.

@@ -1,9 +1,9 @@
 //! Whatever the pieces in which an input comes, a scanner returns what is cut of the whole.
 
 use crate::tokens::{cut_at, passed};
-use crate::told::Told;
 use facet_json::Span;
 use facet_json::scanner::{Mode, ScanResult, Scanner, Token};
+use facet_json_row_values::told::Told;
 
 /// What a call came to.
 #[derive(Clone, Copy)]

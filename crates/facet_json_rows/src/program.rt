@@ -1,9 +1,9 @@
 //! What the program prints, and how a run of it ends.
 
 use crate::faults::{Case, FaultyReader, run_over, write_untold};
-use crate::told::Told;
 use facet_json::Span;
 use facet_json_command::outcome::{OUT_OF_MEMORY, Outcome, status, write_line};
+use facet_json_row_values::told::Told;
 use std::alloc::Global;
 use std::io::ErrorKind;
 

@@ -4,10 +4,10 @@ ghost use Rattle.std.specs.Prelude.{◌≤◌, IfSome};
 
 use crate::blocks::answer_blocks;
 use crate::checked::answer_check;
-use crate::compared::{Mode, Way, compare};
+use crate::compared::{Way, compare};
 use crate::counted::answer_count;
 use crate::cuts::answer_cuts;
-use crate::decoded::{answer_decode, answer_repeated};
+use crate::decoded::{answer_decode, answer_decoders, answer_repeated};
 use crate::derived::answer_derived;
 use crate::long::answer_long;
 use crate::marked::answer_marked;
@@ -17,10 +17,18 @@ use crate::printf::is_printed;
 use crate::program::{answer_ended, answer_failed, answer_program};
 use crate::scans::answer_pieces;
 use crate::tokens::{answer_scanner, answer_tokens};
-use crate::told::Told;
-use crate::trees::{answer_equal, answer_write};
 use crate::unread::Unread;
 use facet_json_command::script::parse_script;
+use facet_json_row_values::changed::answer_change;
+use facet_json_row_values::contents::answer_content;
+use facet_json_row_values::documents::answer_document;
+use facet_json_row_values::forgotten::answer_forget;
+use facet_json_row_values::found::answer_find;
+use facet_json_row_values::readings::answer_read_tree;
+use facet_json_row_values::told::Told;
+use facet_json_row_values::trees::{answer_equal, answer_write};
+use facet_json_row_values::types::{answer_own, answer_read};
+use facet_json_row_values::words::{Mode, first_word, modes};
 use std::alloc::Global;
 use std::io::ErrorKind;
 
@@ -75,17 +83,21 @@ fn answer_part(alloc: Global, name: &str, words: &str, input: &[u8], told: &mut 
         "pieces" => answer_pieces(alloc, input, told),
         "short_texts" => answer_short_texts(input, told),
         "decode" => answer_decode(alloc, words, input, told),
+        "decoders" => answer_decoders(alloc, input, told),
         "number" => answer_number(words, input, told),
         "check" => answer_check(words, input, told),
         "count" => answer_count(alloc, input, told),
         "marked" => answer_marked(alloc, words, input, told),
+        "forget" => answer_forget(alloc, words, input, told),
+        "read_tree" => answer_read_tree(alloc, words, input, told),
         "derived" => answer_derived(alloc, words, told),
+        "document" => answer_document(alloc, words, input, told),
         _ => answer_text(alloc, name, words, text_of(input), told),
     }
 }
 
 /// The input as a text; the empty one where it is none.
-fn text_of(input: &[u8]) -> &str {
+pub fn text_of(input: &[u8]) -> &str {
     str::from_utf8(input).unwrap_or("")
 }
 
@@ -97,6 +109,11 @@ fn answer_text(alloc: Global, name: &str, words: &str, text: &str, told: &mut To
         "blocks" => answer_blocks(alloc, modes(words), text, told),
         "equal" => answer_equal(alloc, text, told),
         "write" => answer_write(alloc, words, text, told),
+        "read" => answer_read(alloc, words, text, told),
+        "own" => answer_own(alloc, words, text, told),
+        "change" => answer_change(alloc, words, text, told),
+        "content" => answer_content(alloc, text, told),
+        "find" => answer_find(alloc, text, told),
         _ => told.line("NO COMMAND"),
     }
 }
@@ -114,11 +131,6 @@ pub fn range(words: &str, len: usize) -> Option<(usize, usize)>
     } else {
         None
     }
-}
-
-/// The first word, and what stands after the blank that ends it.
-pub fn first_word(text: &str) -> (&str, &str) {
-    text.split_once(' ').unwrap_or((text, ""))
 }
 
 /// Tells what parsers of the input tell: `MODES all`, `MODES skips`, `MODES captures`, `MODES cuts`, `MODES first COUNT` or
@@ -164,17 +176,5 @@ fn answer_script(alloc: Global, modes: &[Mode], script: &str, input: &[u8], told
     match parse_script(alloc, script) {
         Ok(calls) => compare(alloc, modes, &[Way::ByCalls(calls.as_slice())], input, told),
         Err(_) => told.line("NO SCRIPT"),
-    }
-}
-
-/// The modes of this name.
-pub fn modes(word: &str) -> &'static [Mode] {
-    match word {
-        "plain" => &[Mode::Plain],
-        "jsonc" => &[Mode::Jsonc],
-        "strict" => &[Mode::Strict],
-        "both" => &[Mode::Plain, Mode::Jsonc],
-        "each" => &[Mode::Plain, Mode::Jsonc, Mode::Strict],
-        _ => &[],
     }
 }

@@ -5,10 +5,10 @@ ghost use Rattle.std.specs.Prelude.{◌<◌};
 use crate::faults::{Ended, FaultyReader, Trial};
 use crate::pieces::write_other_pieces;
 use crate::tokens::cut_at;
-use crate::told::Told;
 use facet_json::scanner::{
     Marked, Mode, ScanError, ScanReadError, Scanned, SpannedToken, Token, scan_reader,
 };
+use facet_json_row_values::told::Told;
 use std::alloc::Global;
 use std::io::{ErrorKind, Read};
 

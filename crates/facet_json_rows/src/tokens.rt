@@ -1,9 +1,9 @@
 //! The tokens of an input, and calls of a scanner.
 
 use crate::pieces::write_other_pieces;
-use crate::row::first_word;
-use crate::told::Told;
 use facet_json::scanner::{Mode, ScanError, ScanResult, Scanner, Token, cut};
+use facet_json_row_values::told::Told;
+use facet_json_row_values::words::first_word;
 
 /// Tells a refusal: the kind, the offset of its bytes and their number.
 pub fn write_refusal(error: &ScanError, told: &mut Told) {

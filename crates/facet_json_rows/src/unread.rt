@@ -1,9 +1,9 @@
 //! Skips and captures at each place of an input.
 
-use crate::shown::{Telling, push, separate, write_error};
-use crate::told::Told;
 use facet_format::{FormatParser, ParseError, Span};
 use facet_json::JsonParser;
+use facet_json_row_values::shown::{Telling, push, separate, write_error};
+use facet_json_row_values::told::Told;
 
 /// A call that passes what comes, its text unread.
 #[derive(Clone, Copy)]

@@ -7,6 +7,7 @@ use crate::events::{Kind, made};
 use crate::twice::but_once;
 use crate::written::Scalar;
 use facet_format::ParseEvent;
+use facet_json_core::RawJson;
 use std::alloc::{AllocError, Global};
 
 static DECIMALS: [Row<'static>; 3] = [
@@ -54,9 +55,32 @@ fn holds(alloc: Global, kind: Kind, is_owned: bool) -> bool {
     }
 }
 
+/// Whether a raw text is kept in memory of its own; or memory runs out, and it comes back as it was.
+fn is_owned(alloc: Global, text: &str) -> Option<bool> {
+    match RawJson::new(text).into_owned(alloc) {
+        Ok(owned) => keeps(alloc, owned, text),
+        Err(lent) if lent.as_str() == text => None,
+        Err(_) => Some(false),
+    }
+}
+
+/// Whether a raw text that is owned stays so without memory.
+fn keeps(alloc: Global, owned: RawJson<'static>, text: &str) -> Option<bool> {
+    match owned.into_owned(alloc) {
+        Ok(again) => Some(again.as_str() == text),
+        Err(_) => Some(false),
+    }
+}
+
+static RAW_TEXTS: [&str; 3] = ["[1, {}]", "x", ""];
+
 #[test]
-fn a_growth_is_refused_in_a_decimal_and_an_event(rt: HostRuntime) {
+fn a_growth_is_refused_in_a_decimal_a_raw_text_and_an_event(rt: HostRuntime) {
     let alloc = rt.alloc();
+    for &text in &RAW_TEXTS {
+        let first = is_owned(alloc, text);
+        assert!(rt; but_once(first, is_owned(alloc, text)), "{text}");
+    }
     for row in &DECIMALS {
         let first = is_kept(alloc, row);
         assert!(rt; but_once(first, is_kept(alloc, row)), "{}", row.0);

@@ -7,7 +7,6 @@ use std::alloc::Global;
 
 /// Inputs that begin with a container of this kind, and the last token of its run.
 #[rattlefmt::skip]
-#[rattlefmt::skip]
 static RUNS: [(&[u8], ContainerKind, Span); 3] = [
     (b"[1,,:] 2", ContainerKind::Array, Span { offset: 5, len: 1 }),
     (b"{\"a\":[1 2]}}", ContainerKind::Object, Span { offset: 10, len: 1 }),

@@ -2,17 +2,15 @@
 //! of their requests for memory, which is refused, and they have to pass in every such run. Each row is tried twice, its set-up too: as
 //! one request is refused in a run, memory runs out in one of the two at most, and the other gives the whole answer.
 
-use crate::contents::Sample;
-use crate::samples::list_of;
-use crate::trees::list_of_trees;
 use crate::twice::but_once;
-use crate::writers::{FORMS, Form, SAMPLE, tabs_and_hex, text_by, write_by};
+use crate::writers::{FORMS, Form, sample, tabs_and_hex, text_by, write_by};
 use crate::written::{Call, Layout, Row, is_after, is_text, writes};
+use facet_format::FormatSerializer;
 use facet_json::{
     to_string, to_string_pretty, to_string_with_options, to_vec, to_vec_pretty, to_vec_with_options,
 };
-use facet_json_serializer::JsonSerializeError;
-use facet_json_tree::{Tree, WriteError};
+use facet_json_serializer::{JsonSerializeError, JsonSerializer};
+use facet_json_tree::{Tree, WriteError, tree_from_slice, write_tree};
 use std::alloc::{AllocError, Global};
 use std::io::ErrorKind;
 
@@ -75,7 +73,7 @@ static WAYS: [Way; 5] = [
 
 /// Whether the sample is given so, or memory runs out.
 fn gives(alloc: Global, form: Form, way: &Way) -> Option<bool> {
-    match list_of(alloc, &SAMPLE) {
+    match sample(alloc) {
         Some(tree) => gives_tree(alloc, form, &tree, way),
         None => None,
     }
@@ -186,14 +184,30 @@ fn gives_byte(alloc: Global) -> Option<bool> {
     }
 }
 
-/// A list in a list.
-static PAIR: [Sample; 2] = [Sample::U64(1), Sample::Null];
+/// Writes a list of two trees.
+fn write_both(
+    serializer: &mut JsonSerializer<'_>,
+    first: &Tree,
+    second: &Tree,
+) -> Result<(), JsonSerializeError> {
+    serializer.begin_seq()?;
+    write_tree(serializer, first)?;
+    write_tree(serializer, second)?;
+    serializer.end_seq()
+}
+
+/// A list of this tree and of another, each written where a value stands.
+fn list_of_trees(alloc: Global, tree: &Tree) -> Result<Vec<u8>, JsonSerializeError> {
+    let mut serializer = JsonSerializer::new(alloc);
+    write_both(&mut serializer, tree, &Tree::Bool(true))?;
+    serializer.finish()
+}
 
 /// Whether a list of trees, each written where a value stands, is given.
 fn gives_list(alloc: Global) -> Option<bool> {
-    match list_of(alloc, &PAIR) {
-        Some(tree) => is_text(&list_of_trees(alloc, &tree), "[[1,null],true]"),
-        None => None,
+    match tree_from_slice(alloc, b"[1,null]") {
+        Ok(tree) => is_text(&list_of_trees(alloc, &tree), "[[1,null],true]"),
+        Err(_) => None,
     }
 }
 

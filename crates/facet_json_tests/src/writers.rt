@@ -1,8 +1,6 @@
 //! Texts of trees to writers that take a few bytes at a time, none, or fail. `write_allocations` has those that take all, bytes and text.
 
-use crate::contents::Sample;
 use crate::error_samples::is_displayed;
-use crate::samples::list_of;
 use facet_json::{to_writer_std, to_writer_std_pretty, to_writer_std_with_options};
 use facet_json_serializer::SerializeOptions;
 use facet_json_tree::{Tree, WriteError};
@@ -10,8 +8,14 @@ use std::alloc::{AllocError, Global};
 use std::io;
 use std::io::{ErrorKind, Write};
 
-/// A list that each layout writes in another way.
-pub static SAMPLE: [Sample; 2] = [Sample::Null, Sample::Bytes(&[1, 255])];
+/// A list of null and two bytes, which each layout writes in another way.
+pub fn sample(alloc: Global) -> Option<Tree> {
+    let bytes = Vec::from_slice(alloc, &[1, 255]).ok()?;
+    let mut items = Vec::new(alloc);
+    items.push(Tree::Null).ok()?;
+    items.push(Tree::Bytes(bytes)).ok()?;
+    Some(Tree::List(items))
+}
 
 const COMPACT: &str = "[null,[1,255]]";
 
@@ -165,7 +169,7 @@ fn ends_each_way(alloc: Global, form: Form, tree: &Tree) -> bool {
 
 /// The same of the sample.
 fn holds(alloc: Global, form: Form) -> bool {
-    match list_of(alloc, &SAMPLE) {
+    match sample(alloc) {
         Some(tree) => ends_each_way(alloc, form, &tree),
         None => false,
     }
