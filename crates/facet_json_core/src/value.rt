@@ -192,6 +192,12 @@ fn pass(
 
 /// The next event, where a value has not ended.
 ///
+/// ```text
+/// let mut parser = JsonParser::new(alloc, b"1");
+/// next_of_value(&mut parser)     Ok: U64(1), span 0+1
+/// next_of_value(&mut parser)     Err: UnexpectedEof { expected: "value" }, span 1+0
+/// ```
+///
 /// # Errors
 ///
 /// As the parser's `next_event`; and where the parser is at the end of its document, an unexpected end.
