@@ -4,6 +4,8 @@ pub mod FieldsBack
 pub mod ItemsPassed
 pub mod LinePiecesRead
 pub mod LinesRead
+pub mod NestedTokens
+pub mod NestedValues
 pub mod NodesPointed
 pub mod PointersFollowed
 pub mod StructLaws

@@ -2,3 +2,4 @@
 pub mod LinePieces
 pub mod LinePlaces
 pub mod Pointing
+pub mod Passing

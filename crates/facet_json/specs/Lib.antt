@@ -1,6 +1,7 @@
 -- What clauses of this crate speak of, so that a crate that uses it need not list those below it.
 pub use Rattle.facet_format.specs.Agree
 pub use Rattle.facet_format.specs.Alike
+pub mod Allowed
 pub use Rattle.facet_json_grammar.specs.Alone
 pub use Rattle.facet_json_grammar.specs.AsRead
 pub use Rattle.facet_json_grammar.specs.Begun
@@ -53,6 +54,7 @@ pub use Rattle.facet_json_core.specs.Meaning.Maps
 pub use Rattle.facet_json_grammar.specs.Meaning
 pub use Rattle.facet_json_tree.specs.Merge
 pub use Rattle.facet_json_grammar.specs.Move
+pub mod Nesting
 pub use Rattle.facet_json_grammar.specs.Next
 pub use Rattle.facet_json_grammar.specs.Node
 pub use Rattle.facet_json_core.specs.Meaning.Nodes

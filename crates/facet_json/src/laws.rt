@@ -1,6 +1,8 @@
 //! What the definitions mean, in the subject's own words: each law is the contract of a function without effect. Laws of tokens, growing
 //! buffers and strings' contents stand in `scanner`, and those of numbers, refusals and cursors, which hold of every format, in `formats`.
 
+ghost use Rattle.facet_json.specs.Nesting.{DocumentBeyond};
+
 pub use facet_format::laws as formats;
 pub use facet_json_core::laws::{
     alone_is_given, begun_is_prefix, capture_passes_run, document_comes_back, document_is_readable,
@@ -24,3 +26,8 @@ pub use facet_json_scan::laws as scanner;
 pub use facet_json_tree::laws::{
     changes_are_found, first_beyond_is_deeper, sorted_members_are_found,
 };
+
+/// Of a document the tokens' first bracket beyond a depth is the value's.
+pub fn first_beyond_by_tokens()
+    ensures { DocumentBeyond }
+{}

@@ -15,6 +15,8 @@ pub mod laws;
 mod line_pieces;
 mod lines;
 pub mod made;
+mod nesting;
+mod options;
 mod pointer;
 pub mod scanner;
 pub mod steps;
@@ -52,6 +54,7 @@ pub use facet_json_tree::{
     tree_from_slice_within_jsonc, tree_from_slice_within_strict, write_tree,
 };
 pub use lines::{Line, LineError, Lines};
+pub use options::{Language, ReadOptions, from_slice_with_options, from_str_with_options};
 pub use writers::{to_writer_std, to_writer_std_pretty, to_writer_std_with_options};
 pub use writing::{
     to_string, to_string_pretty, to_string_with_options, to_vec, to_vec_pretty, to_vec_with_options,

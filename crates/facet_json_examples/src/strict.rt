@@ -5,7 +5,10 @@ ghost use Rattle.facet_json.specs.StrictDocument.{IsStrict};
 
 use crate::loops::count_left;
 use facet_json::scanner::{check_number_strict, check_string_strict};
-use facet_json::{DeserializeError, JsonParser, ParseError, from_slice_strict};
+use facet_json::{
+    DeserializeError, JsonParser, ParseError, ReadOptions, from_slice_strict,
+    from_slice_with_options,
+};
 use std::alloc::Global;
 
 /// The number that a message is, where it is nothing else: `7`, but neither `07` nor `7,`.
@@ -13,6 +16,15 @@ pub fn count<'t>(alloc: Global, message: &[u8]) -> Result<u64, DeserializeError<
     ensures { OnOk result (IsStrict message.now) }
 {
     from_slice_strict(alloc, message)
+}
+
+/// The words of a message, which lends them: a text of RFC 8259 alone, in which no list stands within another.
+pub fn words<'t, 'de>(
+    alloc: Global,
+    message: &'de [u8],
+) -> Result<Vec<&'de str>, DeserializeError<'t>> {
+    let options = ReadOptions::new().strict().borrowed().depth(1);
+    from_slice_with_options(alloc, message, options)
 }
 
 /// How many events a message has, where it is a text of RFC 8259 that can be read; nothing of it is kept.

@@ -1,7 +1,6 @@
 //! What a person can do about an error.
 
-use crate::arguments::Language;
-use facet_json::{DeserializeErrorKind, Span};
+use facet_json::{DeserializeErrorKind, Language, Span};
 
 /// What to do about a word that is none of JSON.
 const WORDS: &str = "a word other than true, false and null stands in double quotes";

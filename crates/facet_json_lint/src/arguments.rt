@@ -1,5 +1,6 @@
 //! What the arguments after the program's name ask for.
 
+use facet_json::Language;
 use std::alloc::Global;
 use std::fmt;
 
@@ -25,17 +26,6 @@ pub struct Options {
     pub layout: Layout,
     /// Whether only the status tells.
     pub is_quiet: bool,
-}
-
-/// How a file is read.
-#[derive(Clone, Copy)]
-pub enum Language {
-    /// As RFC 8259 describes it, leniently.
-    Plain,
-    /// Leniently, and with comments.
-    Jsonc,
-    /// RFC 8259 alone.
-    Strict,
 }
 
 /// What becomes of a file's layout.

@@ -5,11 +5,10 @@ ghost use Rattle.facet_json.specs.FormatViews.{refusal_of};
 ghost use Rattle.facet_json.specs.Reading.{LacksMemory};
 ghost use Rattle.facet_json_lint.specs.Checked.{IsWholeSource};
 
-use crate::arguments::Language;
 use facet_json::scanner::Mode;
 use facet_json::{
-    DeserializeError, DeserializeErrorKind, FormatOptions, FormatParser, JsonParser, ParseEvent,
-    ParseEventKind, Span, check_strict, check_whole, format_text, format_text_strict,
+    DeserializeError, DeserializeErrorKind, FormatOptions, FormatParser, JsonParser, Language,
+    ParseEvent, ParseEventKind, Span, check_strict, check_whole, format_text, format_text_strict,
 };
 use std::alloc::{AllocError, Global};
 

@@ -1,6 +1,6 @@
 //! Values of types that are read of a text: by each function that reads one, and by a type's own readers among other calls of a parser.
 
-use crate::entries::{By, ENTRIES, Entry, is_one, read_by};
+use crate::entries::{By, ENTRIES, Entry, is_one, read_by, within};
 use crate::marks::mark;
 use crate::shown::{Telling, push, push_script};
 use crate::told::Told;
@@ -12,8 +12,8 @@ use std::alloc::Global;
 /// How a type is asked for values of a text.
 #[derive(Clone, Copy)]
 pub enum How<'a> {
-    /// By some entries, which have to tell the same.
-    Entries(By),
+    /// By some entries, which have to tell the same; where a depth is given, by those that take one.
+    Entries(By, Option<usize>),
     /// By its own readers, among these calls of a parser.
     Calls(&'a str),
     /// By this entry, whose requests for memory are marked.
@@ -31,7 +31,7 @@ pub struct Asked<'a> {
 /// Tells what the type reads.
 pub fn tell<'a, T: Facet<'a>>(asked: Asked<'a>, told: &mut Told) {
     match asked.how {
-        How::Entries(by) => tell_entries::<T>(asked, by, told),
+        How::Entries(by, depth) => tell_entries::<T>(asked, by, depth, told),
         How::Calls(calls) => tell_calls::<T>(asked, calls, told),
         How::Marked(Entry::Owned) => tell_marked_reader::<T>(asked, false, told),
         How::Marked(Entry::Borrowed) => tell_marked_reader::<T>(asked, true, told),
@@ -39,12 +39,21 @@ pub fn tell<'a, T: Facet<'a>>(asked: Asked<'a>, told: &mut Told) {
     }
 }
 
+/// The entry, if it is one of these, and takes the depth if one is given.
+fn wanted(entry: &Entry, by: By, depth: Option<usize>) -> Option<Entry> {
+    match depth {
+        _ if !is_one(entry, by) => None,
+        Some(depth) => within(entry, depth),
+        None => Some(*entry),
+    }
+}
+
 /// Tells what the first of these entries reads, and each that reads something else.
-fn tell_entries<'a, T: Facet<'a>>(asked: Asked<'a>, by: By, told: &mut Told) {
+fn tell_entries<'a, T: Facet<'a>>(asked: Asked<'a>, by: By, depth: Option<usize>, told: &mut Told) {
     let mut expected: Option<Told> = None;
     for (entry, name) in &ENTRIES {
-        if is_one(entry, by) {
-            let read = read_of::<T>(asked, entry);
+        if let Some(entry) = wanted(entry, by, depth) {
+            let read = read_of::<T>(asked, &entry);
             match &expected {
                 None => {
                     told.line(read.as_str());

@@ -34,15 +34,20 @@ static ALL: [&str; 19] = [
     "Tree",
 ];
 
-/// Tells what entries read: `BY TYPE`.
+/// Tells what entries read: `BY TYPE`, or `BY:DEPTH TYPE`.
 pub fn answer_read(alloc: Global, words: &str, text: &str, told: &mut Told) {
     let (by, name) = first_word(words);
-    match by_of(by) {
-        Some(by) => {
-            let how = How::Entries(by);
-            answer_types(name, Asked { alloc, how, text }, told);
-        }
+    match entries_of(by) {
+        Some(how) => answer_types(name, Asked { alloc, how, text }, told),
         None => told.line("NO ENTRIES"),
+    }
+}
+
+/// Which entries the word names, with a depth or without one.
+fn entries_of(word: &str) -> Option<How<'_>> {
+    match word.split_once(':') {
+        Some((by, depth)) => Some(How::Entries(by_of(by)?, Some(depth.parse().ok()?))),
+        None => Some(How::Entries(by_of(word)?, None)),
     }
 }
 
