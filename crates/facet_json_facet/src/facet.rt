@@ -115,6 +115,8 @@ pub fn value_in<'t, 'de, T: Facet<'de>>(
     ensures read { IfOk result (λ v. IsRead (cond borrows T.shape.reading_borrowed T.shape.reading) parser.old (T.view v) parser.new) }
     ensures owned { borrows ≡ false → IfOk result T.owned }
     ensures unread { IfErr result (λ e. IsUnread (cond borrows T.shape.reading_borrowed T.shape.reading) parser.old (refusal_of e)) }
+    ensures document { T.whole ≡ true → OnOk result (HasDocument parser.old) }
+    ensures strict { T.whole ≡ true → OnOk result (EndsStrictly parser.old parser.new) }
     ensures keeps { KeepsOn parser.old parser.new }
     ensures shorter { OnOk result (ahead parser.new < ahead parser.old) }
     ensures one_value { OnOk result (PassesValue parser.old parser.new) }

@@ -24,7 +24,7 @@ mod wide;
 pub use facet::{Facet, ReadResult, value_in};
 pub use prefix::{from_slice_prefix, from_str_prefix};
 pub use reading::{
-    from_slice, from_slice_borrowed, from_slice_borrowed_jsonc, from_slice_jsonc, from_str,
-    from_str_borrowed, from_str_borrowed_jsonc, from_str_jsonc,
+    first_value, from_slice, from_slice_borrowed, from_slice_borrowed_jsonc, from_slice_jsonc,
+    from_str, from_str_borrowed, from_str_borrowed_jsonc, from_str_jsonc,
 };
-pub use strict::{from_slice_strict, from_str_strict};
+pub use strict::{from_slice_strict, from_str_strict, whole_value};

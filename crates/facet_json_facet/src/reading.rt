@@ -5,7 +5,7 @@ ghost use Rattle.facet_json_token.specs.Gap.{Mode, plain, jsonc};
 ghost use Rattle.facet_json_grammar.specs.Now.{fresh};
 ghost use Rattle.facet_json_facet.specs.Inputs.{FirstValue};
 
-use crate::facet::Facet;
+use crate::facet::{Facet, value_in};
 use facet_format::DeserializeError;
 use facet_json_parser::JsonParser;
 use std::alloc::Global;
@@ -179,7 +179,7 @@ pub fn from_str_borrowed_jsonc<'t, 'de, T: Facet<'de>>(
 
 /// Reads the value before which a new parser stands, and may borrow of the input where `borrows` says so.
 #[inline(always)]
-fn first_value<'t, 'de, T: Facet<'de>>(
+pub fn first_value<'t, 'de, T: Facet<'de>>(
     alloc: Global,
     parser: &mut JsonParser<'de>,
     borrows: bool,
@@ -188,9 +188,5 @@ fn first_value<'t, 'de, T: Facet<'de>>(
         → FirstValue (cond borrows T.shape.reading_borrowed T.shape.reading) T.whole T.view input mode result }
     ensures owned { borrows ≡ false → IfOk result T.owned }
 {
-    if borrows {
-        T::read(alloc, parser)
-    } else {
-        T::read_owned(alloc, parser)
-    }
+    value_in(alloc, parser, borrows)
 }

@@ -1,12 +1,12 @@
 //! Values of a type from bytes or a text that has to be RFC 8259 alone, from its start to its end.
 
-ghost use Rattle.std.specs.Prelude.{◌≡◌, ℕ, List, IfOk};
+ghost use Rattle.std.specs.Prelude.{◌≡◌, ℕ, List, false, cond, IfOk};
 ghost use Rattle.facet_json_token.specs.Gap.{plain};
 ghost use Rattle.facet_json_grammar.specs.Language.{strict};
 ghost use Rattle.facet_json_grammar.specs.Now.{fresh_in};
 ghost use Rattle.facet_json_facet.specs.Inputs.{StrictValue};
 
-use crate::facet::Facet;
+use crate::facet::{Facet, value_in};
 use facet_format::DeserializeError;
 use facet_json_core::pass_end;
 use facet_json_parser::JsonParser;
@@ -35,7 +35,7 @@ pub fn from_slice_strict<'t, 'de, T: Facet<'de>>(
     ensures value { StrictValue T.shape.reading T.whole T.view input.now result }
     ensures owned { IfOk result T.owned }
 {
-    whole_value(alloc, &mut JsonParser::new_strict(alloc, input))
+    whole_value(alloc, &mut JsonParser::new_strict(alloc, input), false)
 }
 
 /// Reads a value as `from_slice_strict`, from a text, which is known to be UTF-8.
@@ -56,19 +56,24 @@ pub fn from_str_strict<'t, 'de, T: Facet<'de>>(
     ensures owned { IfOk result T.owned }
 {
     let bytes = input.as_bytes();
-    whole_value(alloc, &mut JsonParser::new_strict_trusted(alloc, bytes))
+    whole_value(
+        alloc,
+        &mut JsonParser::new_strict_trusted(alloc, bytes),
+        false,
+    )
 }
 
-/// Reads the value before which a new strict parser stands, and then the end.
-fn whole_value<'t, 'de, T: Facet<'de>>(
+/// Reads the value before which a new strict parser stands, and then the end; the value may borrow of the input where `borrows` says so.
+pub fn whole_value<'t, 'de, T: Facet<'de>>(
     alloc: Global,
     parser: &mut JsonParser<'de>,
+    borrows: bool,
 ) -> Result<T, DeserializeError<'t>>
     ensures value { (input : List ℕ) → parser.old ≡ fresh_in input (strict plain)
-        → StrictValue T.shape.reading T.whole T.view input result }
-    ensures owned { IfOk result T.owned }
+        → StrictValue (cond borrows T.shape.reading_borrowed T.shape.reading) T.whole T.view input result }
+    ensures owned { borrows ≡ false → IfOk result T.owned }
 {
-    let value = T::read_owned(alloc, parser)?;
+    let value = value_in(alloc, parser, borrows)?;
     pass_end(parser)?;
     Ok(value)
 }

@@ -10,11 +10,11 @@ use Rattle.facet_json_grammar.specs.Walk.{walk, walk_items, walk_members, event_
 use Rattle.facet_json_grammar.proofs.WalkComes.{events_before-append}
 use Rattle.facet_json_tree.specs.Depth.{first_beyond, first_beyond_items, first_beyond_members, beyond}
 
-or-none : {A : Type 0} (o : Option A) → option_or o None ≡ o
+pub or-none : {A : Type 0} (o : Option A) → option_or o None ≡ o
 or-none None = refl
 or-none (Some x) = refl
 
-or-assoc : {A : Type 0} (a b c : Option A) → option_or (option_or a b) c ≡ option_or a (option_or b c)
+pub or-assoc : {A : Type 0} (a b c : Option A) → option_or (option_or a b) c ≡ option_or a (option_or b c)
 or-assoc None b c = refl
 or-assoc (Some x) b c = refl
 
