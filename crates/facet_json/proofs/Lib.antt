@@ -1,3 +1,4 @@
+pub mod BeyondCounted
 pub mod ComesBack
 pub mod FieldLaws
 pub mod FieldsBack

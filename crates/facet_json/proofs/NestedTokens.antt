@@ -14,8 +14,8 @@ use Rattle.facet_json_grammar.specs.Language.{lenient}
 use Rattle.facet_json_reader.proofs.CutsAtPlaces.{ends, stands, is_cut, is_refused}
 use Rattle.facet_json.specs.declared.nesting.Passed.{Passed}
 use Rattle.facet_json.specs.declared.nesting.Passed.TheVariants as passed
-use Rattle.facet_json.specs.Inner.Passing.{beyond_after}
-use Rattle.facet_json.specs.Nesting.{beyond_at, tokens_beyond}
+use Rattle.facet_json.specs.Nesting.{bracket_of}
+use Rattle.facet_json.specs.Inner.Nested.{beyond_at, tokens_beyond, beyond_after}
 use Rattle.facet_json.proofs.NestedValues.{at-first}
 
 -- Nothing is beyond where no token is left.
@@ -31,7 +31,7 @@ module _ (buffer : List ℕ) (mode : Mode) (position around room : ℕ) (inside 
   -- After a token: what that leads to.
   pub beyond-token : (t : SpannedToken) → cut_of (Ok t) ≡ Some (cut buffer position mode) → (after : Passed) →
       ((kind : Kind) (span : Span) (others : ℕ → ℕ → Option Span) → kind_of t.token ≡ Some kind →
-      beyond_at kind span others around room ≡ beyond_after after span others) →
+      beyond_at (bracket_of kind) span others around room ≡ beyond_after after span others) →
       (kind_of t.token ≡ None → after ≡ passed.Over) →
       tokens_beyond (tokens_from buffer mode position) around room
       ≡ beyond_after after (span_of t.span) (tokens_beyond (tokens_from buffer mode (stop (span_of t.span))))

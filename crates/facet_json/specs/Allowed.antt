@@ -1,14 +1,15 @@
 -- What a typed read answers by its options.
-use Rattle.std.specs.Prelude.{ℕ, Bool, cond, List, Option, Result}
+use Rattle.std.specs.Prelude.{ℕ, Bool, cond, List, Result}
 use Rattle.facet_format.specs.Span.{Span}
 use Rattle.facet_format.specs.declared.error.DeserializeError.{DeserializeError}
 use Rattle.facet_json_token.specs.Gap.{Mode, plain, jsonc}
+use Rattle.facet_json_token.specs.TokenList.{tokens}
 use Rattle.facet_json_core.specs.Meaning.Shapes.{Reading}
 use Rattle.facet_json_facet.specs.Inputs.{FirstValue, StrictValue}
 use Rattle.facet_json.specs.declared.options.Language.{Language}
 use Rattle.facet_json.specs.declared.options.Language.TheVariants as language
 use Rattle.facet_json.specs.declared.options.ReadOptions.{ReadOptions}
-use Rattle.facet_json.specs.Nesting.{limit_beyond}
+use Rattle.facet_json.specs.Nesting.{IsBeyond}
 
 -- what may stand between the tokens of a language
 abbrev pub gaps_of : Language → Mode
@@ -16,9 +17,9 @@ gaps_of language.Plain = plain
 gaps_of language.Jsonc = jsonc
 gaps_of language.Strict = plain
 
--- the first bracket of the input's value that stands deeper than the options allow
-abbrev pub options_beyond : ReadOptions → List ℕ → Option Span
-options_beyond options input = limit_beyond input (gaps_of options.language) options.depth
+-- At this span is the first bracket of the input's value that stands deeper than the options allow.
+abbrev pub IsTooDeep : ReadOptions → List ℕ → Span → Type 0
+IsTooDeep options input span = IsBeyond options.depth (tokens input (gaps_of options.language)) span
 
 -- What a call answers that reads a value in a language: with the first of two readings where it borrows, else with the other.
 abbrev pub ReadIn : {V A : Type 0} → Language → Bool → Reading V → Reading V → Bool → (A → V) → List ℕ → Result A DeserializeError → Type 0

@@ -1,7 +1,7 @@
 //! What the definitions mean, in the subject's own words: each law is the contract of a function without effect. Laws of tokens, growing
 //! buffers and strings' contents stand in `scanner`, and those of numbers, refusals and cursors, which hold of every format, in `formats`.
 
-ghost use Rattle.facet_json.specs.Nesting.{DocumentBeyond};
+ghost use Rattle.facet_json.specs.Nesting.{BeyondInDocument};
 
 pub use facet_format::laws as formats;
 pub use facet_json_core::laws::{
@@ -27,7 +27,7 @@ pub use facet_json_tree::laws::{
     changes_are_found, first_beyond_is_deeper, sorted_members_are_found,
 };
 
-/// Of a document the tokens' first bracket beyond a depth is the value's.
+/// Of a document the first bracket beyond a depth, as its tokens are counted, is the value's.
 pub fn first_beyond_by_tokens()
-    ensures { DocumentBeyond }
+    ensures { BeyondInDocument }
 {}

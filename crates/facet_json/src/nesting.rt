@@ -6,8 +6,8 @@ ghost use Rattle.facet_format.specs.Span.{Span as SpecSpan, stop};
 ghost use Rattle.facet_format.specs.Views.{span_of};
 ghost use Rattle.facet_json_token.specs.Token.{Kind};
 ghost use Rattle.facet_json_token.specs.Views.{kind_of, mode_of};
-ghost use Rattle.facet_json.specs.Inner.Passing.{beyond_after, IfInside};
-ghost use Rattle.facet_json.specs.Nesting.{opened, inside, closed, beyond_at, input_beyond};
+ghost use Rattle.facet_json.specs.Nesting.{bracket_of};
+ghost use Rattle.facet_json.specs.Inner.Nested.{opened, inside, closed, beyond_at, input_beyond, beyond_after, IfInside};
 
 use facet_format::Span;
 use facet_json_token::{Mode, Token, cut};
@@ -36,7 +36,7 @@ impl Nesting {
     fn pass(self, token: &Token) -> Passed
         requires { self.around + self.room < 2 ^ 64 }
         ensures token { (kind : Kind) (span : SpecSpan) (others : ℕ → ℕ → Option SpecSpan) → kind_of token.now ≡ Some kind
-            → beyond_at kind span others self.around self.room ≡ beyond_after result span others }
+            → beyond_at (bracket_of kind) span others self.around self.room ≡ beyond_after result span others }
         ensures end { kind_of token.now ≡ None → result ≡ Passed.Over }
         ensures fits { IfInside result (λ n. n.around + n.room ≡ self.around + self.room) }
     {

@@ -1,25 +1,16 @@
 //! Typed reads by options: the language, what may be borrowed, and how deep the input may nest.
 
-ghost use Rattle.std.specs.Prelude.{◌≡◌, ℕ, List, true, false, Some, None, OnOk, IfOk, IfErr, MatchResult};
+ghost use Rattle.std.specs.Prelude.{◌≡◌, false, true, Some, None, OnOk, OnErr, IfOk, IfErr, MatchResult, ⊥};
 ghost use Rattle.facet_format.specs.Span.{Span as SpecSpan};
 ghost use Rattle.facet_format.specs.Views.{refusal_of};
-ghost use Rattle.facet_json_token.specs.Gap.{plain};
 ghost use Rattle.facet_json_token.specs.Views.{mode_of};
-ghost use Rattle.facet_json_grammar.specs.Language.{strict};
-ghost use Rattle.facet_json_grammar.specs.Now.{fresh_in};
 ghost use Rattle.facet_json_grammar.specs.UnreadLaws.{RefusalWithin};
 ghost use Rattle.facet_json_tree.specs.Depth.{too_deep_at};
-ghost use Rattle.facet_json_facet.specs.Inputs.{StrictValue};
-ghost use Rattle.facet_json.specs.Allowed.{gaps_of, options_beyond, ReadIn};
+ghost use Rattle.facet_json.specs.Allowed.{gaps_of, IsTooDeep, ReadIn};
 
 use crate::nesting::first_beyond;
 use facet_format::{DeserializeError, DeserializeErrorKind};
-use facet_json_core::pass_end;
-use facet_json_facet::{
-    Facet, from_slice, from_slice_borrowed, from_slice_borrowed_jsonc, from_slice_jsonc,
-    from_slice_strict, from_str, from_str_borrowed, from_str_borrowed_jsonc, from_str_jsonc,
-    from_str_strict,
-};
+use facet_json_facet::{Facet, first_value, whole_value};
 use facet_json_parser::JsonParser;
 use facet_json_token::Mode;
 use std::alloc::Global;
@@ -116,9 +107,10 @@ impl ReadOptions {
 
     /// Checks that the input's value nests no deeper.
     fn check_depth<'t>(&self, input: &[u8]) -> Result<(), DeserializeError<'t>>
-        ensures shallow { OnOk result (options_beyond self.now input.now ≡ None) }
-        ensures deeper { IfErr result (λ e. (span : SpecSpan) × (options_beyond self.now input.now ≡ Some span)
-            × (refusal_of e ≡ too_deep_at span)) }
+        ensures shallow { OnOk result ((span : SpecSpan) → IsTooDeep self.now input.now span → ⊥) }
+        ensures deeper { (span : SpecSpan) → IsTooDeep self.now input.now span
+            → MatchResult result (λ _. ⊥) (λ e. refusal_of e ≡ too_deep_at span) }
+        ensures only { OnErr result ((span : SpecSpan) × IsTooDeep self.now input.now span) }
         ensures within { IfErr result (λ e. RefusalWithin input.now (refusal_of e)) }
     {
         let Some(limit) = self.depth else {
@@ -166,19 +158,31 @@ pub fn from_slice_with_options<'t, 'de, T: Facet<'de>>(
     input: &'de [u8],
     options: ReadOptions,
 ) -> Result<T, DeserializeError<'t>>
-    ensures shallow { OnOk result (options_beyond options input.now ≡ None) }
-    ensures deeper { (span : SpecSpan) → options_beyond options input.now ≡ Some span
+    ensures shallow { OnOk result ((span : SpecSpan) → IsTooDeep options input.now span → ⊥) }
+    ensures deeper { (span : SpecSpan) → IsTooDeep options input.now span
         → MatchResult result (λ _. ⊥) (λ e. refusal_of e ≡ too_deep_at span) }
-    ensures value { options_beyond options input.now ≡ None
+    ensures value { ((span : SpecSpan) → IsTooDeep options input.now span → ⊥)
         → ReadIn options.language options.borrows T.shape.reading_borrowed T.shape.reading T.whole T.view input.now result }
     ensures owned { options.borrows ≡ false → IfOk result T.owned }
     ensures within { IfErr result (λ e. RefusalWithin input.now (refusal_of e)) }
 {
     options.check_depth(input)?;
-    if options.borrows {
-        slice_borrowed(alloc, input, options.language)
-    } else {
-        slice_owned(alloc, input, options.language)
+    match options.language {
+        Language::Plain => first_value(alloc, &mut JsonParser::new(alloc, input), options.borrows),
+        Language::Jsonc => {
+            first_value(
+                alloc,
+                &mut JsonParser::new_jsonc(alloc, input),
+                options.borrows,
+            )
+        }
+        Language::Strict => {
+            whole_value(
+                alloc,
+                &mut JsonParser::new_strict(alloc, input),
+                options.borrows,
+            )
+        }
     }
 }
 
@@ -196,96 +200,37 @@ pub fn from_str_with_options<'t, 'de, T: Facet<'de>>(
     input: &'de str,
     options: ReadOptions,
 ) -> Result<T, DeserializeError<'t>>
-    ensures shallow { OnOk result (options_beyond options input.now ≡ None) }
-    ensures deeper { (span : SpecSpan) → options_beyond options input.now ≡ Some span
+    ensures shallow { OnOk result ((span : SpecSpan) → IsTooDeep options input.now span → ⊥) }
+    ensures deeper { (span : SpecSpan) → IsTooDeep options input.now span
         → MatchResult result (λ _. ⊥) (λ e. refusal_of e ≡ too_deep_at span) }
-    ensures value { options_beyond options input.now ≡ None
+    ensures value { ((span : SpecSpan) → IsTooDeep options input.now span → ⊥)
         → ReadIn options.language options.borrows T.shape.reading_borrowed T.shape.reading T.whole T.view input.now result }
     ensures owned { options.borrows ≡ false → IfOk result T.owned }
     ensures within { IfErr result (λ e. RefusalWithin input.now (refusal_of e)) }
 {
-    options.check_depth(input.as_bytes())?;
-    if options.borrows {
-        str_borrowed(alloc, input, options.language)
-    } else {
-        str_owned(alloc, input, options.language)
-    }
-}
-
-/// Reads a value in a language, and borrows nothing.
-fn slice_owned<'t, 'de, T: Facet<'de>>(
-    alloc: Global,
-    input: &'de [u8],
-    language: Language,
-) -> Result<T, DeserializeError<'t>>
-    ensures value { ReadIn language false T.shape.reading_borrowed T.shape.reading T.whole T.view input.now result }
-    ensures owned { IfOk result T.owned }
-{
-    match language {
-        Language::Plain => from_slice(alloc, input),
-        Language::Jsonc => from_slice_jsonc(alloc, input),
-        Language::Strict => from_slice_strict(alloc, input),
-    }
-}
-
-/// Reads a value in a language, and may borrow.
-fn slice_borrowed<'t, 'de, T: Facet<'de>>(
-    alloc: Global,
-    input: &'de [u8],
-    language: Language,
-) -> Result<T, DeserializeError<'t>>
-    ensures { ReadIn language true T.shape.reading_borrowed T.shape.reading T.whole T.view input.now result }
-{
-    match language {
-        Language::Plain => from_slice_borrowed(alloc, input),
-        Language::Jsonc => from_slice_borrowed_jsonc(alloc, input),
-        Language::Strict => whole_borrowed(alloc, &mut JsonParser::new_strict(alloc, input)),
-    }
-}
-
-/// Reads a value of a text in a language, and borrows nothing.
-fn str_owned<'t, 'de, T: Facet<'de>>(
-    alloc: Global,
-    input: &'de str,
-    language: Language,
-) -> Result<T, DeserializeError<'t>>
-    ensures value { ReadIn language false T.shape.reading_borrowed T.shape.reading T.whole T.view input.now result }
-    ensures owned { IfOk result T.owned }
-{
-    match language {
-        Language::Plain => from_str(alloc, input),
-        Language::Jsonc => from_str_jsonc(alloc, input),
-        Language::Strict => from_str_strict(alloc, input),
-    }
-}
-
-/// Reads a value of a text in a language, and may borrow.
-fn str_borrowed<'t, 'de, T: Facet<'de>>(
-    alloc: Global,
-    input: &'de str,
-    language: Language,
-) -> Result<T, DeserializeError<'t>>
-    ensures { ReadIn language true T.shape.reading_borrowed T.shape.reading T.whole T.view input.now result }
-{
-    match language {
-        Language::Plain => from_str_borrowed(alloc, input),
-        Language::Jsonc => from_str_borrowed_jsonc(alloc, input),
+    let bytes = input.as_bytes();
+    options.check_depth(bytes)?;
+    match options.language {
+        Language::Plain => {
+            first_value(
+                alloc,
+                &mut JsonParser::new_trusted(alloc, bytes),
+                options.borrows,
+            )
+        }
+        Language::Jsonc => {
+            first_value(
+                alloc,
+                &mut JsonParser::new_jsonc_trusted(alloc, bytes),
+                options.borrows,
+            )
+        }
         Language::Strict => {
-            let text = input.as_bytes();
-            whole_borrowed(alloc, &mut JsonParser::new_strict_trusted(alloc, text))
+            whole_value(
+                alloc,
+                &mut JsonParser::new_strict_trusted(alloc, bytes),
+                options.borrows,
+            )
         }
     }
-}
-
-/// Reads the value before which a new strict parser stands, which may borrow of the input, and then the end.
-fn whole_borrowed<'t, 'de, T: Facet<'de>>(
-    alloc: Global,
-    parser: &mut JsonParser<'de>,
-) -> Result<T, DeserializeError<'t>>
-    ensures { (input : List ℕ) → parser.old ≡ fresh_in input (strict plain)
-        → StrictValue T.shape.reading_borrowed T.whole T.view input result }
-{
-    let value = T::read(alloc, parser)?;
-    pass_end(parser)?;
-    Ok(value)
 }

@@ -1,7 +1,12 @@
 //! Messages between machines: texts of RFC 8259 alone, from their start to their end.
 
-ghost use Rattle.std.specs.Prelude.{OnOk};
+ghost use Rattle.std.specs.Prelude.{OnOk, ⊥};
+ghost use Rattle.facet_json.specs.Gap.{plain};
+ghost use Rattle.facet_json.specs.Nesting.{StandsBeyond};
+ghost use Rattle.facet_json.specs.OneRun.{IsOneRun};
+ghost use Rattle.facet_json.specs.Span.{Span as SpecSpan};
 ghost use Rattle.facet_json.specs.StrictDocument.{IsStrict};
+ghost use Rattle.facet_json.specs.TokenList.{tokens};
 
 use crate::loops::count_left;
 use facet_json::scanner::{check_number_strict, check_string_strict};
@@ -22,7 +27,10 @@ pub fn count<'t>(alloc: Global, message: &[u8]) -> Result<u64, DeserializeError<
 pub fn words<'t, 'de>(
     alloc: Global,
     message: &'de [u8],
-) -> Result<Vec<&'de str>, DeserializeError<'t>> {
+) -> Result<Vec<&'de str>, DeserializeError<'t>>
+    ensures alone { OnOk result (IsOneRun message.now plain) }
+    ensures shallow { OnOk result ((bracket : SpecSpan) → StandsBeyond 1 (tokens message.now plain) bracket → ⊥) }
+{
     let options = ReadOptions::new().strict().borrowed().depth(1);
     from_slice_with_options(alloc, message, options)
 }

@@ -40,10 +40,10 @@ pub enum Entry {
     StrBorrowedJsonc,
     /// The type's own `read`, by a parser
     Borrowed,
-    /// `from_slice_with_options`
-    SliceWith(ReadOptions),
+    /// `from_slice_with_options`, in a language, where the value may borrow or not
+    SliceWith(Language, bool),
     /// `from_str_with_options`
-    StrWith(ReadOptions),
+    StrWith(Language, bool),
 }
 
 /// Some of them.
@@ -67,48 +67,6 @@ pub enum By {
     BorrowedStrict,
 }
 
-/// As `from_slice`.
-const PLAIN: ReadOptions = ReadOptions {
-    language: Language::Plain,
-    borrows: false,
-    depth: None,
-};
-
-/// As `from_slice_jsonc`.
-const JSONC: ReadOptions = ReadOptions {
-    language: Language::Jsonc,
-    borrows: false,
-    depth: None,
-};
-
-/// As `from_slice_strict`.
-const STRICT: ReadOptions = ReadOptions {
-    language: Language::Strict,
-    borrows: false,
-    depth: None,
-};
-
-/// As `from_slice_borrowed`.
-const PLAIN_BORROWED: ReadOptions = ReadOptions {
-    language: Language::Plain,
-    borrows: true,
-    depth: None,
-};
-
-/// As `from_slice_borrowed_jsonc`.
-const JSONC_BORROWED: ReadOptions = ReadOptions {
-    language: Language::Jsonc,
-    borrows: true,
-    depth: None,
-};
-
-/// Strictly, and what is read may borrow.
-const STRICT_BORROWED: ReadOptions = ReadOptions {
-    language: Language::Strict,
-    borrows: true,
-    depth: None,
-};
-
 /// All of them, and what they are called.
 #[rattlefmt::skip]
 pub static ENTRIES: [(Entry, &str); 26] = [
@@ -126,18 +84,18 @@ pub static ENTRIES: [(Entry, &str); 26] = [
     (Entry::StrBorrowed, "from_str_borrowed"),
     (Entry::StrBorrowedJsonc, "from_str_borrowed_jsonc"),
     (Entry::Borrowed, "read"),
-    (Entry::SliceWith(PLAIN), "slice_with:plain"),
-    (Entry::SliceWith(PLAIN_BORROWED), "slice_with:plain:borrowed"),
-    (Entry::SliceWith(JSONC), "slice_with:jsonc"),
-    (Entry::SliceWith(JSONC_BORROWED), "slice_with:jsonc:borrowed"),
-    (Entry::SliceWith(STRICT), "slice_with:strict"),
-    (Entry::SliceWith(STRICT_BORROWED), "slice_with:strict:borrowed"),
-    (Entry::StrWith(PLAIN), "str_with:plain"),
-    (Entry::StrWith(PLAIN_BORROWED), "str_with:plain:borrowed"),
-    (Entry::StrWith(JSONC), "str_with:jsonc"),
-    (Entry::StrWith(JSONC_BORROWED), "str_with:jsonc:borrowed"),
-    (Entry::StrWith(STRICT), "str_with:strict"),
-    (Entry::StrWith(STRICT_BORROWED), "str_with:strict:borrowed"),
+    (Entry::SliceWith(Language::Plain, false), "slice_with:plain"),
+    (Entry::SliceWith(Language::Plain, true), "slice_with:plain:borrowed"),
+    (Entry::SliceWith(Language::Jsonc, false), "slice_with:jsonc"),
+    (Entry::SliceWith(Language::Jsonc, true), "slice_with:jsonc:borrowed"),
+    (Entry::SliceWith(Language::Strict, false), "slice_with:strict"),
+    (Entry::SliceWith(Language::Strict, true), "slice_with:strict:borrowed"),
+    (Entry::StrWith(Language::Plain, false), "str_with:plain"),
+    (Entry::StrWith(Language::Plain, true), "str_with:plain:borrowed"),
+    (Entry::StrWith(Language::Jsonc, false), "str_with:jsonc"),
+    (Entry::StrWith(Language::Jsonc, true), "str_with:jsonc:borrowed"),
+    (Entry::StrWith(Language::Strict, false), "str_with:strict"),
+    (Entry::StrWith(Language::Strict, true), "str_with:strict:borrowed"),
 ];
 
 /// Those of the entries that the word names.
@@ -166,24 +124,24 @@ pub fn entry_of(word: &str) -> Option<Entry> {
 }
 
 /// Which language an entry reads, and whether it may borrow.
-fn options_of(entry: &Entry) -> ReadOptions {
+fn reading_of(entry: &Entry) -> (Language, bool) {
     match entry {
-        Entry::Slice | Entry::SlicePrefix | Entry::Str | Entry::StrPrefix | Entry::Owned => PLAIN,
-        Entry::SliceJsonc | Entry::StrJsonc => JSONC,
-        Entry::SliceStrict | Entry::StrStrict => STRICT,
-        Entry::SliceBorrowed | Entry::StrBorrowed | Entry::Borrowed => PLAIN_BORROWED,
-        Entry::SliceBorrowedJsonc | Entry::StrBorrowedJsonc => JSONC_BORROWED,
-        Entry::SliceWith(options) | Entry::StrWith(options) => *options,
+        Entry::Slice | Entry::SlicePrefix | Entry::Str | Entry::StrPrefix | Entry::Owned => {
+            (Language::Plain, false)
+        }
+        Entry::SliceJsonc | Entry::StrJsonc => (Language::Jsonc, false),
+        Entry::SliceStrict | Entry::StrStrict => (Language::Strict, false),
+        Entry::SliceBorrowed | Entry::StrBorrowed | Entry::Borrowed => (Language::Plain, true),
+        Entry::SliceBorrowedJsonc | Entry::StrBorrowedJsonc => (Language::Jsonc, true),
+        Entry::SliceWith(language, borrows) | Entry::StrWith(language, borrows) => {
+            (*language, *borrows)
+        }
     }
 }
 
 /// Whether an entry is one of these.
 pub fn is_one(entry: &Entry, by: By) -> bool {
-    let ReadOptions {
-        language,
-        borrows,
-        ..
-    } = options_of(entry);
+    let (language, borrows) = reading_of(entry);
     let is_strict = matches!(language, Language::Strict);
     let has_comments = matches!(language, Language::Jsonc);
     match by {
@@ -198,13 +156,9 @@ pub fn is_one(entry: &Entry, by: By) -> bool {
     }
 }
 
-/// The entry within this depth, where it takes one.
-pub fn within(entry: &Entry, depth: usize) -> Option<Entry> {
-    match entry {
-        Entry::SliceWith(options) => Some(Entry::SliceWith(options.depth(depth))),
-        Entry::StrWith(options) => Some(Entry::StrWith(options.depth(depth))),
-        _ => None,
-    }
+/// Whether an entry takes a depth.
+pub fn takes_depth(entry: &Entry) -> bool {
+    matches!(entry, Entry::SliceWith(..) | Entry::StrWith(..))
 }
 
 /// The value, without where its document ends.
@@ -215,13 +169,21 @@ fn alone<'t, T: Drop>(
     Ok(value)
 }
 
-/// What an entry function reads of the text. The type's own readers take a parser, and the caller makes it.
+/// What an entry function reads of the text, within the depth where it takes one. The type's own readers take a parser, and the caller
+/// makes it.
 pub fn read_by<'t, 'de, T: Facet<'de>>(
     alloc: Global,
     entry: &Entry,
+    depth: Option<usize>,
     text: &'de str,
 ) -> Result<T, DeserializeError<'t>> {
     let bytes = text.as_bytes();
+    let (language, borrows) = reading_of(entry);
+    let options = ReadOptions {
+        language,
+        borrows,
+        depth,
+    };
     match entry {
         Entry::Slice | Entry::Owned => from_slice(alloc, bytes),
         Entry::SliceJsonc => from_slice_jsonc(alloc, bytes),
@@ -235,7 +197,7 @@ pub fn read_by<'t, 'de, T: Facet<'de>>(
         Entry::SliceBorrowedJsonc => from_slice_borrowed_jsonc(alloc, bytes),
         Entry::StrBorrowed => from_str_borrowed(alloc, text),
         Entry::StrBorrowedJsonc => from_str_borrowed_jsonc(alloc, text),
-        Entry::SliceWith(options) => from_slice_with_options(alloc, bytes, *options),
-        Entry::StrWith(options) => from_str_with_options(alloc, text, *options),
+        Entry::SliceWith(..) => from_slice_with_options(alloc, bytes, options),
+        Entry::StrWith(..) => from_str_with_options(alloc, text, options),
     }
 }

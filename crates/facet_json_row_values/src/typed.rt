@@ -1,6 +1,6 @@
 //! Values of types that are read of a text: by each function that reads one, and by a type's own readers among other calls of a parser.
 
-use crate::entries::{By, ENTRIES, Entry, is_one, read_by, within};
+use crate::entries::{By, ENTRIES, Entry, is_one, read_by, takes_depth};
 use crate::marks::mark;
 use crate::shown::{Telling, push, push_script};
 use crate::told::Told;
@@ -39,21 +39,12 @@ pub fn tell<'a, T: Facet<'a>>(asked: Asked<'a>, told: &mut Told) {
     }
 }
 
-/// The entry, if it is one of these, and takes the depth if one is given.
-fn wanted(entry: &Entry, by: By, depth: Option<usize>) -> Option<Entry> {
-    match depth {
-        _ if !is_one(entry, by) => None,
-        Some(depth) => within(entry, depth),
-        None => Some(*entry),
-    }
-}
-
 /// Tells what the first of these entries reads, and each that reads something else.
 fn tell_entries<'a, T: Facet<'a>>(asked: Asked<'a>, by: By, depth: Option<usize>, told: &mut Told) {
     let mut expected: Option<Told> = None;
     for (entry, name) in &ENTRIES {
-        if let Some(entry) = wanted(entry, by, depth) {
-            let read = read_of::<T>(asked, &entry);
+        if is_one(entry, by) && (depth.is_none() || takes_depth(entry)) {
+            let read = read_of::<T>(asked, entry, depth);
             match &expected {
                 None => {
                     told.line(read.as_str());
@@ -74,12 +65,15 @@ pub fn tell_difference(name: &str, read: &str, told: &mut Told) {
     told.line(read);
 }
 
-/// What is told of what the entry reads.
-fn read_of<'a, T: Facet<'a>>(asked: Asked<'a>, entry: &Entry) -> Told {
+/// What is told of what the entry reads, within the depth where it takes one.
+fn read_of<'a, T: Facet<'a>>(asked: Asked<'a>, entry: &Entry, depth: Option<usize>) -> Told {
     match entry {
         Entry::Owned => called_of::<T>(asked, "read", false),
         Entry::Borrowed => called_of::<T>(asked, "read", true),
-        _ => told_of(asked.alloc, read_by::<T>(asked.alloc, entry, asked.text)),
+        _ => told_of(
+            asked.alloc,
+            read_by::<T>(asked.alloc, entry, depth, asked.text),
+        ),
     }
 }
 
@@ -147,7 +141,7 @@ pub fn tell_refusal(error: &DeserializeError<'_>, told: &mut Told) {
 /// Tells what the entry reads, whose requests are marked.
 fn tell_marked<'a, T: Facet<'a>>(asked: Asked<'a>, entry: &Entry, told: &mut Told) {
     mark(asked.alloc);
-    let answer = read_by::<T>(asked.alloc, entry, asked.text);
+    let answer = read_by::<T>(asked.alloc, entry, None, asked.text);
     mark(asked.alloc);
     told.line(told_of(asked.alloc, answer).as_str());
 }

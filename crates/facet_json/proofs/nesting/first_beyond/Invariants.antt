@@ -1,7 +1,7 @@
 use Rattle.std.proofs.Common.{◌≡◌, ◌≤◌, ◌+◌, ◌-◌, length}
 use Rattle.facet_json_token.specs.TokenList.{tokens_from}
 use Rattle.facet_json_token.specs.Views.{mode_of}
-use Rattle.facet_json.specs.Nesting.{tokens_beyond, input_beyond}
+use Rattle.facet_json.specs.Inner.Nested.{tokens_beyond, input_beyond}
 use Rattle.facet_json.proofs.nesting.first_beyond.Given as goal
 
 abbrev pub invariant-loop-token : goal.invariant-loop-token
