@@ -1,5 +1,5 @@
 -- Definitions that serve private contracts alone.
 pub mod LinePieces
 pub mod LinePlaces
+pub mod Nested
 pub mod Pointing
-pub mod Passing

@@ -1,6 +1,6 @@
 -- How deep the brackets of an input's first value stand within one another, whether the input has a document or not (RFC 8259, section 9, lets
 -- a reader set a limit).
-use Rattle.std.specs.Prelude.{◌≡◌, ◌≤◌, ◌<◌, ◌+◌, ℕ, List, [], ◌∷◌, ◌++◌, Option, None, Some, ⊥, ◌↔◌}
+use Rattle.std.specs.Prelude.{◌≡◌, ◌≤◌, ◌<◌, ◌+◌, ℕ, List, [], ◌∷◌, ◌++◌, Option, None, Some, ◌↔◌}
 use Rattle.facet_format.specs.Span.{Span}
 use Rattle.facet_json_token.specs.Gap.{Mode}
 use Rattle.facet_json_token.specs.Token.{Kind, Token, object_start, object_end, array_start, array_end}

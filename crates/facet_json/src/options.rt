@@ -1,6 +1,6 @@
 //! Typed reads by options: the language, what may be borrowed, and how deep the input may nest.
 
-ghost use Rattle.std.specs.Prelude.{◌≡◌, false, true, Some, None, OnOk, OnErr, IfOk, IfErr, MatchResult, ⊥};
+ghost use Rattle.std.specs.Prelude.{◌≡◌, false, true, Some, None, OnOk, OnErr, IfOk, IfErr, MatchResult};
 ghost use Rattle.facet_format.specs.Span.{Span as SpecSpan};
 ghost use Rattle.facet_format.specs.Views.{refusal_of};
 ghost use Rattle.facet_json_token.specs.Views.{mode_of};

@@ -1,6 +1,6 @@
 //! Messages between machines: texts of RFC 8259 alone, from their start to their end.
 
-ghost use Rattle.std.specs.Prelude.{OnOk, ⊥};
+ghost use Rattle.std.specs.Prelude.{OnOk};
 ghost use Rattle.facet_json.specs.Gap.{plain};
 ghost use Rattle.facet_json.specs.Nesting.{StandsBeyond};
 ghost use Rattle.facet_json.specs.OneRun.{IsOneRun};
