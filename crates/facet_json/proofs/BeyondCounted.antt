@@ -1,5 +1,5 @@
 -- The first bracket beyond, as the code counts, is the one that has so many around it, and none before it has.
-use Rattle.std.proofs.Common.{◌≡◌, ◌≢◌, ◌≤◌, ◌<◌, ◌+◌, ℕ, zero, suc, List, [], ◌∷◌, ◌++◌, Option, None, Some, refl, sym, ap, ap₂, ◌∙◌, subst, arith}
+use Rattle.std.proofs.Common.{◌≡◌, ◌≢◌, ◌≤◌, ◌<◌, ◌+◌, ℕ, zero, suc, List, [], ◌∷◌, ◌++◌, None, Some, refl, sym, ap, ap₂, ◌∙◌, subst, arith}
 use Rattle.facet_format.specs.Span.{Span}
 use Rattle.facet_json_token.specs.Token.{Token, Fault}
 use Rattle.facet_json_token.specs.Tokens.{Tokens, ended, refused, next}
@@ -237,3 +237,10 @@ module _ (ts : Tokens) (limit : ℕ) (span : Span) where
         first = λ front back is. omega (arith, b.first front back is);
         within = λ t front back is. omega (arith, b.within t front back is);
       })
+
+  -- Where the code finds none there is none, and where it finds one it is that one.
+  pub none-beyond : None ≡ tokens_beyond ts 0 limit → StandsBeyond limit ts span → ⊥
+  none-beyond none b = let found = none ∙ counted-beyond b in absurd (cc)
+
+  pub one-beyond : (found : Span) → Some found ≡ tokens_beyond ts 0 limit → StandsBeyond limit ts span → found ≡ span
+  one-beyond found one b = let same = one ∙ counted-beyond b in cc

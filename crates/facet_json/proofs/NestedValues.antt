@@ -1,5 +1,5 @@
 -- The first bracket beyond a limit in a value's tokens is that of the value.
-use Rattle.std.proofs.Common.{◌≡◌, ℕ, zero, suc, true, List, Option, None, Some, refl, sym, ap, ◌∙◌}
+use Rattle.std.proofs.Common.{◌≡◌, ℕ, zero, suc, true, List, Option, refl, sym, ap, ◌∙◌}
 use Rattle.std.specs.Option.{option_or}
 use Rattle.facet_format.specs.Span.{Span}
 use Rattle.facet_json_token.specs.Token.{Kind, Token, object_start, object_end, array_start, array_end, colon, comma, null, true_literal, false_literal, string, number}
@@ -11,7 +11,7 @@ use Rattle.facet_json_grammar.specs.Document.{IsDocument}
 use Rattle.facet_json_grammar.specs.Tree.{Tree}
 use Rattle.facet_json_tree.specs.Depth.{first_beyond, first_beyond_items, first_beyond_members}
 use Rattle.facet_json_tree.proofs.BeyondOnWalk.{or-none, or-assoc}
-use Rattle.facet_json.specs.Nesting.{Bracket, neither, bracket_of, BeyondInDocument}
+use Rattle.facet_json.specs.Nesting.{neither, bracket_of, BeyondInDocument}
 use Rattle.facet_json.specs.Inner.Nested.{inside, beyond_at, tokens_beyond}
 use Rattle.facet_json.proofs.BeyondCounted.{beyond-counted, counted-beyond}
 
