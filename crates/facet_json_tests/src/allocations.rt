@@ -4,6 +4,7 @@
 
 use crate::decimals::{Row, is_kept};
 use crate::events::{Kind, made};
+use crate::expecting::expect_of;
 use crate::twice::but_once;
 use crate::written::Scalar;
 use facet_format::ParseEvent;
@@ -79,11 +80,11 @@ fn a_growth_is_refused_in_a_decimal_a_raw_text_and_an_event(rt: HostRuntime) {
     let alloc = rt.alloc();
     for &text in &RAW_TEXTS {
         let first = is_owned(alloc, text);
-        assert!(rt; but_once(first, is_owned(alloc, text)), "{text}");
+        expect_of(&rt, but_once(first, is_owned(alloc, text)), text);
     }
     for row in &DECIMALS {
         let first = is_kept(alloc, row);
-        assert!(rt; but_once(first, is_kept(alloc, row)), "{}", row.0);
+        expect_of(&rt, but_once(first, is_kept(alloc, row)), row.0);
     }
     for &(kind, is_owned) in &KINDS {
         assert!(rt; holds(alloc, kind, is_owned));

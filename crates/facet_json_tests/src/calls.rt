@@ -2,6 +2,7 @@
 
 use crate::byte_texts::BYTES;
 use crate::error_samples::is_displayed;
+use crate::expecting::expect_of;
 use crate::written::{Call, Layout, Row, Scalar, is_text, writes};
 use facet_format::FormatSerializer;
 use facet_json_serializer::{JsonSerializeError, JsonSerializer};
@@ -93,11 +94,15 @@ fn calls_are_written_or_refused(rt: HostRuntime) {
     let alloc = rt.alloc();
     for rows in [CALLS.as_slice(), BYTES.as_slice()] {
         for row in rows {
-            assert!(rt; writes(alloc, None, row) == Some(true), "{}", row.3);
+            expect_of(&rt, writes(alloc, None, row) == Some(true), row.3);
         }
     }
     assert!(rt; gives_compact(alloc));
     for (refusal, text) in &REFUSALS {
-        assert!(rt; is_displayed(alloc, refusal, *text) == Some(true), "{text}");
+        expect_of(
+            &rt,
+            is_displayed(alloc, refusal, *text) == Some(true),
+            *text,
+        );
     }
 }

@@ -1,5 +1,6 @@
 //! Decimals, lent and owned: which texts they are, and that they keep them.
 
+use crate::expecting::expect_of;
 use facet_format::Decimal;
 use facet_json_tree::OwnedDecimal;
 use std::alloc::{AllocError, Global};
@@ -114,17 +115,12 @@ fn decimals_are_their_texts(rt: HostRuntime) {
     let alloc = rt.alloc();
     for row in &ROWS {
         let is_kept = is_kept(alloc, row) == Some(true);
-        assert!(rt;
-            is_kept && makes_owned(alloc, row.0, true) == Some(true),
-            "{}",
-            row.0
-        );
+        let is_made = makes_owned(alloc, row.0, true) == Some(true);
+        expect_of(&rt, is_kept && is_made, row.0);
     }
     for &text in &REFUSED {
         let is_none = Decimal::new(text).is_none();
-        assert!(rt;
-            is_none && makes_owned(alloc, text, false) == Some(true),
-            "{text}"
-        );
+        let is_made = makes_owned(alloc, text, false) == Some(true);
+        expect_of(&rt, is_none && is_made, text);
     }
 }

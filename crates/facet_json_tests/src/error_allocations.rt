@@ -3,6 +3,7 @@
 //! one request is refused in a run, memory runs out in one of the two at most, and the other gives the whole answer.
 
 use crate::error_samples::{Sample, Scan, is_labelled, made};
+use crate::expecting::expect_of;
 use crate::twice::but_once;
 use facet_format::{DeserializeErrorKind as Kind, Span};
 use facet_json_core::{JsonError, JsonErrorKind};
@@ -91,10 +92,8 @@ fn a_growth_is_refused_in_a_label_and_a_source(rt: HostRuntime) {
     let alloc = rt.alloc();
     for (sample, label) in &ROWS {
         let first = has_label(alloc, sample, *label);
-        assert!(rt;
-            but_once(first, has_label(alloc, sample, *label)),
-            "{label}"
-        );
+        let again = has_label(alloc, sample, *label);
+        expect_of(&rt, but_once(first, again), *label);
     }
     assert!(rt; but_once(gets_source(alloc), gets_source(alloc)));
 }

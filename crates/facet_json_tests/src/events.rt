@@ -1,5 +1,6 @@
 //! Events: what they derive, and copies of each kind.
 
+use crate::expecting::expect_of;
 use crate::values::shows;
 use crate::written::{Scalar, value_of};
 use facet_format::{
@@ -115,6 +116,6 @@ fn holds(alloc: Global, row: &(Kind, &str, bool)) -> bool {
 #[test]
 fn events_are_copied_and_shown(rt: HostRuntime) {
     for row in &KINDS {
-        assert!(rt; holds(rt.alloc(), row), "{}", row.1);
+        expect_of(&rt, holds(rt.alloc(), row), row.1);
     }
 }

@@ -1,6 +1,7 @@
 //! Kinds: their name, their message and their label, and reports of them.
 
 use crate::error_samples::{Row, Sample, Scan, holds};
+use crate::expecting::expect_of;
 use crate::own::OWN;
 use crate::past_ascii::PAST_ASCII;
 
@@ -43,7 +44,7 @@ fn each_kind_is_told_and_shown(rt: HostRuntime) {
     let alloc = rt.alloc();
     for rows in [ROWS.as_slice(), OWN.as_slice(), PAST_ASCII.as_slice()] {
         for row in rows {
-            assert!(rt; holds(alloc, row), "{}", row.2);
+            expect_of(&rt, holds(alloc, row), row.2);
         }
     }
 }

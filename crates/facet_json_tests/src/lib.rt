@@ -19,6 +19,8 @@ mod error_samples;
 #[cfg(test)]
 mod events;
 #[cfg(test)]
+mod expecting;
+#[cfg(test)]
 mod generic;
 #[cfg(test)]
 mod kinds;

@@ -1,6 +1,7 @@
 //! Reports of each kind of refusal, at each sort of place; lines and columns, and errors that keep their source.
 
 use crate::error_samples::is_reported;
+use crate::expecting::expect_of;
 use facet_format::{DeserializeError, DeserializeErrorKind as Kind, Span};
 use facet_json_core::{JsonError, JsonErrorKind, Position, position_at};
 use facet_json_serializer::JsonSerializeError;
@@ -134,7 +135,7 @@ static PLACES: [(&[u8], usize, Position); 3] = [
 fn refusals_are_reported(rt: HostRuntime) {
     let alloc = rt.alloc();
     for row in &ROWS {
-        assert!(rt; holds(alloc, row), "{}", row.shown);
+        expect_of(&rt, holds(alloc, row), row.shown);
     }
     for (text, offset, place) in &PLACES {
         assert!(rt; position_at(*text, *offset) == *place);

@@ -2,6 +2,7 @@
 //! of their requests for memory, which is refused, and they have to pass in every such run. Each row is tried twice, its set-up too: as
 //! one request is refused in a run, memory runs out in one of the two at most, and the other gives the whole answer.
 
+use crate::expecting::expect_of;
 use crate::twice::but_once;
 use crate::writers::{FORMS, Form, sample, tabs_and_hex, text_by, write_by};
 use crate::written::{Call, Layout, Row, is_after, is_text, writes};
@@ -47,7 +48,7 @@ fn are_written(alloc: Global, row: &Row) -> bool {
 #[test]
 fn a_refused_growth_sticks(rt: HostRuntime) {
     for row in &ROWS {
-        assert!(rt; are_written(rt.alloc(), row), "{}", row.3);
+        expect_of(&rt, are_written(rt.alloc(), row), row.3);
     }
 }
 
@@ -217,11 +218,8 @@ fn a_growth_is_refused_in_each_form(rt: HostRuntime) {
     for form in FORMS {
         for way in &WAYS {
             let first = gives(alloc, form, way);
-            assert!(rt;
-                but_once(first, gives(alloc, form, way)),
-                "{}",
-                text_by(form)
-            );
+            let again = gives(alloc, form, way);
+            expect_of(&rt, but_once(first, again), text_by(form));
         }
     }
     assert!(rt; but_once(gives_byte(alloc), gives_byte(alloc)));

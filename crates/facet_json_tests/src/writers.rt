@@ -1,6 +1,7 @@
 //! Texts of trees to writers that take a few bytes at a time, none, or fail. `write_allocations` has those that take all, bytes and text.
 
 use crate::error_samples::is_displayed;
+use crate::expecting::expect_of;
 use facet_json::{to_writer_std, to_writer_std_pretty, to_writer_std_with_options};
 use facet_json_serializer::SerializeOptions;
 use facet_json_tree::{Tree, WriteError};
@@ -191,7 +192,7 @@ fn are_told(alloc: Global) -> bool {
 #[test]
 fn each_function_writes_to_each_writer(rt: HostRuntime) {
     for form in FORMS {
-        assert!(rt; holds(rt.alloc(), form), "{}", text_by(form));
+        expect_of(&rt, holds(rt.alloc(), form), text_by(form));
     }
     assert!(rt; are_told(rt.alloc()));
 }
