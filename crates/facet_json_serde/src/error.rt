@@ -24,8 +24,8 @@ pub enum ErrorKind<'t> {
     MissingField(Detail),
     /// The field of this name comes twice.
     DuplicateField(Detail),
-    /// A field that the type does not have.
-    UnknownField,
+    /// A field that the type does not have: its name as it is spelled in the input, up to a control character.
+    UnknownField(Detail),
     /// A variant that the type does not have.
     UnknownVariant,
     /// A list of another length.
@@ -128,7 +128,7 @@ fn kind_of<'t>(fault: &ReadFault) -> ErrorKind<'t> {
         ReadFaultKind::Trailing => ErrorKind::TrailingCharacters,
         ReadFaultKind::MissingField => ErrorKind::MissingField(fault.detail()),
         ReadFaultKind::DuplicateField => ErrorKind::DuplicateField(fault.detail()),
-        ReadFaultKind::UnknownField => ErrorKind::UnknownField,
+        ReadFaultKind::UnknownField => ErrorKind::UnknownField(fault.detail()),
         ReadFaultKind::UnknownVariant => ErrorKind::UnknownVariant,
         ReadFaultKind::InvalidLength => ErrorKind::InvalidLength,
         ReadFaultKind::InvalidValue => ErrorKind::InvalidValue,
@@ -187,7 +187,7 @@ impl fmt::Display for ErrorKind<'static> {
                 write!(f, "missing required field `{}`", name.as_str())
             }
             ErrorKind::DuplicateField(name) => write!(f, "duplicate field `{}`", name.as_str()),
-            ErrorKind::UnknownField => f.write_str("unknown field"),
+            ErrorKind::UnknownField(name) => write!(f, "unknown field `{}`", name.as_str()),
             ErrorKind::UnknownVariant => f.write_str("unknown variant"),
             ErrorKind::InvalidLength => f.write_str("invalid length"),
             ErrorKind::InvalidValue => f.write_str("invalid value"),

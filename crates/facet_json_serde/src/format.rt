@@ -389,7 +389,11 @@ impl<'de> Format for Json<'de> {
     }
 
     fn unknown_key(&self) -> ReadFault {
-        self.error(ReadFaultKind::UnknownField)
+        let fault = self.error(ReadFaultKind::UnknownField);
+        match self.last_quoted() {
+            Some(name) => fault.about(self.alloc, name),
+            None => fault,
+        }
     }
 
     fn unknown_variant(&self) -> ReadFault {

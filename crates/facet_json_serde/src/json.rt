@@ -266,6 +266,17 @@ impl<'de> Json<'de> {
         ReadFault::at(kind, self.last)
     }
 
+    /// What stands between the quotes of the last event that was taken, as it is spelled in the input, up to its first control character, which
+    /// has no place in a message of one line.
+    pub(crate) fn last_quoted(&self) -> Option<&str> {
+        let token = self.parser.input()?.get(self.last.offset..self.last.end())?;
+        let [b'"', content @ .., b'"'] = token else {
+            return None;
+        };
+        let end = content.iter().position(|byte| byte.is_ascii_control());
+        str::from_utf8(content.get(..end.unwrap_or(content.len()))?).ok()
+    }
+
     /// Stops reading for good.
     #[cold]
     #[inline(never)]

@@ -81,13 +81,26 @@ static MOONS: [Case<'static>; 6] = [
     ),
 ];
 
-/// An alias, a field that is left out, one that is skipped both ways, and no unknown fields. A duplicate is told by the name in Rust.
-static ACCOUNTS: [Case<'static>; 10] = [
+/// An alias, a field that is left out, one that is skipped both ways, and no unknown fields, of which one is told as it is spelled, up to a control character, and cut at 32 bytes. A
+/// duplicate is told by the name in Rust.
+static ACCOUNTS: [Case<'static>; 13] = [
     (r#"{"ID":-7,"note":"x"}"#, r#"{"ID":-7,"note":"x"}"#),
     (r#"{"id":7,"note":null}"#, r#"{"ID":7}"#),
     (
         r#"{"id":7,"cache":1}"#,
-        "unknown field at line 1, column 9\n{\"id\":7,\"cache\":1}\n        ^^^^^^^",
+        "unknown field `cache` at line 1, column 9\n{\"id\":7,\"cache\":1}\n        ^^^^^^^",
+    ),
+    (
+        r#"{"id":7,"n\u006fte2":1}"#,
+        "unknown field `n\\u006fte2` at line 1, column 9\n{\"id\":7,\"n\\u006fte2\":1}\n        ^^^^^^^^^^^^",
+    ),
+    (
+        "{\"a\tb\":1}",
+        "unknown field `a` at line 1, column 2\n{\"a\tb\":1}\n ^^^^^",
+    ),
+    (
+        r#"{"a_name_of_thirty_three_characters":1}"#,
+        "unknown field `a_name_of_thirty_three_charac...` at line 1, column 2\n{\"a_name_of_thirty_three_characters\":1}\n ^^^^^^^^^^^^^^^^^^^^^^^^^^^^^^^^^^^",
     ),
     (
         "{\n  \"id\": \"a\"}",
