@@ -26,8 +26,8 @@ pub enum ErrorKind<'t> {
     DuplicateField(Detail),
     /// A field that the type does not have: its name as it is spelled in the input, up to a control character.
     UnknownField(Detail),
-    /// A variant that the type does not have.
-    UnknownVariant,
+    /// A variant that the type does not have: its name, likewise.
+    UnknownVariant(Detail),
     /// A list of another length.
     InvalidLength,
     /// A value that the type does not have.
@@ -129,7 +129,7 @@ fn kind_of<'t>(fault: &ReadFault) -> ErrorKind<'t> {
         ReadFaultKind::MissingField => ErrorKind::MissingField(fault.detail()),
         ReadFaultKind::DuplicateField => ErrorKind::DuplicateField(fault.detail()),
         ReadFaultKind::UnknownField => ErrorKind::UnknownField(fault.detail()),
-        ReadFaultKind::UnknownVariant => ErrorKind::UnknownVariant,
+        ReadFaultKind::UnknownVariant => ErrorKind::UnknownVariant(fault.detail()),
         ReadFaultKind::InvalidLength => ErrorKind::InvalidLength,
         ReadFaultKind::InvalidValue => ErrorKind::InvalidValue,
         ReadFaultKind::Custom => ErrorKind::Custom(fault.detail()),
@@ -188,7 +188,7 @@ impl fmt::Display for ErrorKind<'static> {
             }
             ErrorKind::DuplicateField(name) => write!(f, "duplicate field `{}`", name.as_str()),
             ErrorKind::UnknownField(name) => write!(f, "unknown field `{}`", name.as_str()),
-            ErrorKind::UnknownVariant => f.write_str("unknown variant"),
+            ErrorKind::UnknownVariant(name) => write!(f, "unknown variant `{}`", name.as_str()),
             ErrorKind::InvalidLength => f.write_str("invalid length"),
             ErrorKind::InvalidValue => f.write_str("invalid value"),
             ErrorKind::KeyMustBeAString => f.write_str("key must be a string"),

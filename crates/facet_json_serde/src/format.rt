@@ -340,7 +340,9 @@ impl<'de> Format for Json<'de> {
     }
 
     fn variant(&mut self, input: &[u8], names: &[Name<'_>]) -> Result<usize, ReadFault> {
-        Ok(serde::find(names, self.text(input)?.as_str()))
+        let name = self.text(input)?;
+        self.variant = self.last;
+        Ok(serde::find(names, name.as_str()))
     }
 
     #[inline(always)]
@@ -389,15 +391,11 @@ impl<'de> Format for Json<'de> {
     }
 
     fn unknown_key(&self) -> ReadFault {
-        let fault = self.error(ReadFaultKind::UnknownField);
-        match self.last_quoted() {
-            Some(name) => fault.about(self.alloc, name),
-            None => fault,
-        }
+        self.unknown(ReadFaultKind::UnknownField, self.last)
     }
 
     fn unknown_variant(&self) -> ReadFault {
-        self.error(ReadFaultKind::UnknownVariant)
+        self.unknown(ReadFaultKind::UnknownVariant, self.variant)
     }
 
     fn wrong_len(&self) -> ReadFault {

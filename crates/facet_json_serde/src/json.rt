@@ -102,6 +102,8 @@ pub struct Json<'de> {
     pub(crate) ahead: Ahead<'de>,
     /// The bytes of the last event that was taken.
     pub(crate) last: Span,
+    /// The bytes of the name that was last looked for among variants: a rewind does not lose it.
+    pub(crate) variant: Span,
     /// The next value is the key of a map's entry.
     pub(crate) at_key: bool,
     marks: Vec<Landmark<'de>>,
@@ -115,6 +117,7 @@ impl Drop for Json<'_> {
             parser: _,
             ahead: _,
             last: _,
+            variant: _,
             at_key: _,
             marks: _,
         } = self;
@@ -159,6 +162,7 @@ impl<'de> Json<'de> {
             parser,
             ahead: Ahead::Nothing,
             last: Span::new(0, 0),
+            variant: Span::new(0, 0),
             at_key: false,
             marks: Vec::new(alloc),
         }
@@ -266,10 +270,21 @@ impl<'de> Json<'de> {
         ReadFault::at(kind, self.last)
     }
 
-    /// What stands between the quotes of the last event that was taken, as it is spelled in the input, up to its first control character, which
-    /// has no place in a message of one line.
-    pub(crate) fn last_quoted(&self) -> Option<&str> {
-        let token = self.parser.input()?.get(self.last.offset..self.last.end())?;
+    /// The fault about the name that is spelled at these bytes between quotes, up to its first control character, which has no place in a
+    /// message of one line.
+    #[cold]
+    #[inline(never)]
+    pub(crate) fn unknown(&self, kind: ReadFaultKind, span: Span) -> ReadFault {
+        let fault = ReadFault::at(kind, span);
+        match self.quoted_at(span) {
+            Some(name) => fault.about(self.alloc, name),
+            None => fault,
+        }
+    }
+
+    /// What is spelled at these bytes between quotes, up to its first control character.
+    fn quoted_at(&self, span: Span) -> Option<&str> {
+        let token = self.parser.input()?.get(span.offset..span.end())?;
         let [b'"', content @ .., b'"'] = token else {
             return None;
         };

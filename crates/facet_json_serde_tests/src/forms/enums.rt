@@ -44,7 +44,7 @@ static SHAPES: [Case<'static>; 4] = [
     ),
     (
         r#"["Other"]"#,
-        "unknown variant at line 1, column 2\n[\"Other\"]\n ^^^^^^^",
+        "unknown variant `Other` at line 1, column 2\n[\"Other\"]\n ^^^^^^^",
     ),
     (
         r#"[{"Sphere":1e39}]"#,
@@ -57,7 +57,7 @@ static SHAPES: [Case<'static>; 4] = [
 ];
 
 /// By a member of its own, which may stand anywhere.
-static COMMANDS: [Case<'static>; 4] = [
+static COMMANDS: [Case<'static>; 6] = [
     (
         r#"[{"kind":"move_to","x":1,"y":-2},{"kind":"stop"}]"#,
         r#"[{"kind":"move_to","x":1,"y":-2},{"kind":"stop"}]"#,
@@ -65,6 +65,14 @@ static COMMANDS: [Case<'static>; 4] = [
     (
         r#"[{"x":1,"skipped":[{"a":1}],"kind":"move_to","y":-2}]"#,
         r#"[{"kind":"move_to","x":1,"y":-2}]"#,
+    ),
+    (
+        r#"[{"kind":"jump","x":1}]"#,
+        "unknown variant `jump` at line 1, column 10\n[{\"kind\":\"jump\",\"x\":1}]\n         ^^^^^^",
+    ),
+    (
+        r#"[{"x":1,"kind":"jump"}]"#,
+        "unknown variant `jump` at line 1, column 16\n[{\"x\":1,\"kind\":\"jump\"}]\n               ^^^^^^",
     ),
     (
         r#"[{"x":1,"y":2}]"#,
@@ -77,12 +85,16 @@ static COMMANDS: [Case<'static>; 4] = [
 ];
 
 /// By a member, beside one of the data.
-static ADJACENT: [Case<'static>; 3] = [
+static ADJACENT: [Case<'static>; 4] = [
     (
         r#"[{"t":"one","c":1},{"t":"two","c":[1,2]},{"t":"nothing"}]"#,
         r#"[{"t":"one","c":1},{"t":"two","c":[1,2]},{"t":"nothing"}]"#,
     ),
     (r#"[{"c":[1,2],"t":"two"}]"#, r#"[{"t":"two","c":[1,2]}]"#),
+    (
+        r#"[{"t":"three"}]"#,
+        "unknown variant `three` at line 1, column 7\n[{\"t\":\"three\"}]\n      ^^^^^^^",
+    ),
     (
         "[{\"c\":[1,\n2}]",
         "unexpected token: got '}', expected ']' at line 2, column 2\n2}]\n ^",

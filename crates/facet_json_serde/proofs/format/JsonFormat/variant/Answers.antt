@@ -7,7 +7,7 @@ use Rattle.facet_json_serde.proofs.format.JsonFormat.variant.Goals as goal
 
 pub returns : goal.returns
 returns c =
-    let key = cow_str_bytes c.in_ok-text.field-0 in
+    let key = cow_str_bytes c.in_ok-name.name in
     let reads : StepReads c.args.self.now (λ given. HoldsText given.kind key) c.text.new.self = search rules in
     let finds : Finds c.args.names.now key c.find.result = search rules in
     text-picks c.args.self.now c.text.new.self c.args.names.now key c.args.input.now c.find.result reads finds
