@@ -9,6 +9,7 @@ use Rattle.facet_json_token.specs.Gap.{Mode}
 use Rattle.facet_json_token.specs.TokenList.{tokens}
 use Rattle.facet_json_grammar.specs.Document.{IsDocument}
 use Rattle.facet_json_grammar.specs.Tree.{Tree}
+use Rattle.facet_json_grammar.proofs.Runs.SpelledRuns.{string-is_scalar}
 use Rattle.facet_json_tree.specs.Depth.{first_beyond, first_beyond_items, first_beyond_members}
 use Rattle.facet_json_tree.proofs.BeyondOnWalk.{or-none, or-assoc}
 use Rattle.facet_json.specs.Nesting.{neither, bracket_of, BeyondInDocument}
@@ -35,17 +36,7 @@ scalar-neither colon is = refl
 scalar-neither comma is = refl
 
 string-neither : (kind : Kind) → is_string kind ≡ true → bracket_of kind ≡ neither
-string-neither (string start finish has_escapes) is = refl
-string-neither null is = refl
-string-neither true_literal is = refl
-string-neither false_literal is = refl
-string-neither (number start finish hint) is = refl
-string-neither object_start is = cc
-string-neither object_end is = cc
-string-neither array_start is = cc
-string-neither array_end is = cc
-string-neither colon is = refl
-string-neither comma is = refl
+string-neither kind is = scalar-neither kind (string-is_scalar kind is)
 
 module _ (t : Token) (ts : Tokens) where
   -- A token, and then the others.

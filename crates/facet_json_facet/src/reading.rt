@@ -177,7 +177,17 @@ pub fn from_str_borrowed_jsonc<'t, 'de, T: Facet<'de>>(
     first_value(alloc, &mut JsonParser::new_jsonc_trusted(alloc, text), true)
 }
 
-/// Reads the value before which a new parser stands, and may borrow of the input where `borrows` says so.
+/// Reads the value before which a new parser stands, and may borrow of the input where `borrows` says so: for a parser that was made in another
+/// way than by the functions above.
+///
+/// ```text
+/// first_value::<u8>(alloc, &mut JsonParser::new(alloc, b"[1] 2"), false)     TypeMismatch: an array begins there
+/// first_value::<u8>(alloc, &mut JsonParser::new(alloc, b"1 2"), false)       Ok: 1
+/// ```
+///
+/// # Errors
+///
+/// As `from_slice`.
 #[inline(always)]
 pub fn first_value<'t, 'de, T: Facet<'de>>(
     alloc: Global,

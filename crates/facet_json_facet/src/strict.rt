@@ -64,6 +64,15 @@ pub fn from_str_strict<'t, 'de, T: Facet<'de>>(
 }
 
 /// Reads the value before which a new strict parser stands, and then the end; the value may borrow of the input where `borrows` says so.
+///
+/// ```text
+/// whole_value::<u8>(alloc, &mut JsonParser::new_strict(alloc, b" 1 "), false)     Ok: 1
+/// whole_value::<u8>(alloc, &mut JsonParser::new_strict(alloc, b"1 2"), false)     UnexpectedToken, span 2+1
+/// ```
+///
+/// # Errors
+///
+/// As `from_slice_strict`.
 pub fn whole_value<'t, 'de, T: Facet<'de>>(
     alloc: Global,
     parser: &mut JsonParser<'de>,

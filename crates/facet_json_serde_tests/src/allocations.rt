@@ -2,37 +2,40 @@
 //! memory, which is refused, and it has to pass in every such run. Each text is tried twice: as one request is refused in a run, memory runs out
 //! in one of the two at most, and the other gives the whole answer.
 
-use crate::forms::again::rewritten;
+use crate::forms::again::{rewritten, said};
 use crate::forms::enums::{Adjacent, Command};
 use crate::forms::structs::Account;
 use facet_json_serde::{DeserializeErrorKind, Error, ErrorKind};
 use serde::{Deserialize, Serialize};
 use std::alloc::Global;
 
-/// Whether this is the text that is wanted, or no answer where an allocation failed.
-fn is_text(answer: Result<String, Error<'static>>, wanted: &str) -> Option<bool> {
-    match answer {
+/// Whether this is the text that is wanted, or what the error says; no answer where an allocation failed.
+fn is_text(alloc: Global, answer: Result<String, Error<'static>>, wanted: &str) -> Option<bool> {
+    if lacks_memory(&answer) {
+        return None;
+    }
+    match said(alloc, answer) {
         Ok(text) => Some(text.as_str() == wanted),
-        Err(error) => refused(error.kind),
+        Err(_) => None,
     }
 }
 
-/// No answer where an allocation failed, and else a wrong one.
-fn refused(kind: ErrorKind<'static>) -> Option<bool> {
-    match kind {
-        ErrorKind::Read(DeserializeErrorKind::OutOfMemory) => None,
-        _ => Some(false),
+/// Whether an allocation failed.
+fn lacks_memory(answer: &Result<String, Error<'static>>) -> bool {
+    match answer {
+        Ok(_) => false,
+        Err(error) => matches!(error.kind, ErrorKind::Read(DeserializeErrorKind::OutOfMemory)),
     }
 }
 
-/// Whether the value that the text is read as is written so, two times but for one at most in which memory ran out.
+/// Whether the value that the text is read as is written so, or its error says so, two times but for one at most in which memory ran out.
 fn comes_back_but_once<'de, T: Deserialize<'de> + Serialize>(
     alloc: Global,
     text: &'de str,
     written: &str,
 ) -> bool {
-    let first = is_text(rewritten::<T>(alloc, text), written);
-    let again = is_text(rewritten::<T>(alloc, text), written);
+    let first = is_text(alloc, rewritten::<T>(alloc, text), written);
+    let again = is_text(alloc, rewritten::<T>(alloc, text), written);
     first.unwrap_or(true) && again.unwrap_or(true) && (first.is_some() || again.is_some())
 }
 
@@ -47,4 +50,13 @@ fn a_growth_is_refused(rt: HostRuntime) {
     assert!(rt; comes_back_but_once::<Vec<Command>>(alloc, text, written));
     let text = r#"[{"t":"two","c":[1,2]},{"t":"nothing"}]"#;
     assert!(rt; comes_back_but_once::<Vec<Adjacent>>(alloc, text, text));
+}
+
+#[test]
+fn a_name_in_an_error_is_not_kept(rt: HostRuntime) {
+    let alloc = rt.alloc();
+    let (text, error) = (r#"{"id":7,"port":1}"#, "unknown field `port`");
+    assert!(rt; comes_back_but_once::<Account>(alloc, text, error));
+    let (text, error) = (r#"[{"kind":"jump"}]"#, "unknown variant `jump`");
+    assert!(rt; comes_back_but_once::<Vec<Command>>(alloc, text, error));
 }

@@ -112,13 +112,18 @@ pub left-refused : (old now new : Option Writing) (t : Tree) (call : SerializerC
     → AreLeft old t (call ∷ rest) now → Appends now call (Err why) new → why ≡ out_of_memory
 left-refused old now new t call rest why h step = refused now new call rest (with_tree h.0 t) why (Err why) step refl h.2
 
--- The same of the code's answer to the last call of a tree.
-pub last-answered : (old now new : Option Writing) (t : Tree) (call : SerializerCall) (r : Result (Unit {0}) JsonSerializeError)
+-- What the code's answer to the last call of a tree leaves.
+pub record Ended (old : Option Writing) (t : Tree) (r : Result (Unit {0}) JsonSerializeError) (new : Option Writing) : Type 0 where
+  pub written : OnOk r (HasWritten old t new)
+  pub refused : IfErr r (λ e. write_refusal_of e ≡ out_of_memory)
+  pub spent : OnErr r (new ≡ None)
+
+last-answered : (old now new : Option Writing) (t : Tree) (call : SerializerCall) (r : Result (Unit {0}) JsonSerializeError)
     → AreLeft old t (call ∷ []) now → Appends now call (call_answer_of r) new → OnOk r (HasWritten old t new)
 last-answered old now new t call (Ok nothing) h step = last-made old now new t call h step
 last-answered old now new t call (Err e) h step = tt
 
-pub last-refused : (old now new : Option Writing) (t : Tree) (call : SerializerCall) (r : Result (Unit {0}) JsonSerializeError)
+last-refused : (old now new : Option Writing) (t : Tree) (call : SerializerCall) (r : Result (Unit {0}) JsonSerializeError)
     → AreLeft old t (call ∷ []) now → Appends now call (call_answer_of r) new → IfErr r (λ e. write_refusal_of e ≡ out_of_memory)
 last-refused old now new t call (Ok nothing) h step = tt
 last-refused old now new t call (Err e) h step = left-refused old now new t call [] (write_refusal_of e) h step
@@ -137,8 +142,15 @@ pub left-spent : (old now new : Option Writing) (t : Tree) (call : SerializerCal
 left-spent old now new t call rest why h step =
     call-spent now new call (Err why) step (ap Err (left-refused old now new t call rest why h step))
 
--- The same of the code's answer to the last call of a tree.
-pub last-spent : (old now new : Option Writing) (t : Tree) (call : SerializerCall) (r : Result (Unit {0}) JsonSerializeError)
+last-spent : (old now new : Option Writing) (t : Tree) (call : SerializerCall) (r : Result (Unit {0}) JsonSerializeError)
     → AreLeft old t (call ∷ []) now → Appends now call (call_answer_of r) new → OnErr r (new ≡ None)
 last-spent old now new t call (Ok nothing) h step = tt
 last-spent old now new t call (Err e) h step = left-spent old now new t call [] (write_refusal_of e) h step
+
+pub last-ended : (old now new : Option Writing) (t : Tree) (call : SerializerCall) (r : Result (Unit {0}) JsonSerializeError)
+    → AreLeft old t (call ∷ []) now → Appends now call (call_answer_of r) new → Ended old t r new
+last-ended old now new t call r left step = record {
+  written = last-answered old now new t call r left step;
+  refused = last-refused old now new t call r left step;
+  spent = last-spent old now new t call r left step;
+}

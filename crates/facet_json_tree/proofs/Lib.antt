@@ -2,6 +2,7 @@ pub mod Answered
 pub mod BeyondEvents
 pub mod BeyondOnWalk
 pub mod CallsLeft
+pub mod Containers
 pub mod DepthOfNodes
 pub mod DocumentWithin
 pub mod EditLaws

@@ -103,3 +103,10 @@ pairs_view-grown (a ∷ ps) (b ∷ qs) k x q e key same =
     let rest : pairs_view ps ≡ pairs_view qs = cc in
     let name : string_bytes a.0 ≡ string_bytes b.0 = cc in
     let value : tree_view a.1 ≡ tree_view b.1 = cc in let more = pairs_view-grown ps qs k x q rest key same in cc
+
+-- the same by the bytes of the member's key
+pub pairs_view-keyed : (ps : List (String Global × Tree)) (i : ℕ) (p : String Global × Tree) (key : List ℕ)
+    → i < length ps → p ≡ get_or ps i p → key ≡ string_bytes p.0
+    → pairs_view (drop i ps) ≡ tree.pair key (tree_view p.1) (pairs_view (drop (i + 1) ps))
+pairs_view-keyed ps i p key h is named =
+    pairs_view-drop ps i p h is ∙ ap (λ k. tree.pair k (tree_view p.1) (pairs_view (drop (i + 1) ps))) (sym named)

@@ -7,7 +7,13 @@ use Rattle.facet_json_tree.proofs.ScalarCalls.{scalar-called}
 use Rattle.facet_json_tree.proofs.tree_calls.write_bytes.Goals as goal
 
 pub returns-clause-written : goal.returns-clause-written
-returns-clause-written c = scalar-called _ _ (event.bytes c.args.bytes.now) _ _ refl c.scalar.ensures.appends
+returns-clause-written c = (scalar-called _ _ (event.bytes c.args.bytes.now) _ _ refl c.scalar.ensures.appends).written
+
+pub returns-clause-refused : goal.returns-clause-refused
+returns-clause-refused c = (scalar-called _ _ (event.bytes c.args.bytes.now) _ _ refl c.scalar.ensures.appends).refused
+
+pub returns-clause-spent : goal.returns-clause-spent
+returns-clause-spent c = (scalar-called _ _ (event.bytes c.args.bytes.now) _ _ refl c.scalar.ensures.appends).spent
 
 pub returns-clause-of_rust : goal.returns-clause-of_rust
 unfolding WellFormed RawParts

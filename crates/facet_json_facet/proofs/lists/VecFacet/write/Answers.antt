@@ -1,5 +1,5 @@
 use Rattle.std.proofs.Common.{arith}
-use Rattle.facet_json_facet.proofs.ListCalls.{list-begun, item-written, list-written, list-refused, list-spent, list-of_rust, list-have}
+use Rattle.facet_json_facet.proofs.ListCalls.{list-begun, item-written, list-ended, list-of_rust, list-have}
 use Rattle.facet_json_facet.proofs.lists.VecFacet.write.Goals as goal
 
 pub loop-item-init : goal.loop-item-init
@@ -17,31 +17,31 @@ pub returns-clause-written : goal.returns-clause-written
 returns-clause-written g c =
     let l = c.loop-item in
     let xs = c.as_slice-item-items.result.now in
-    let done = list-written g.T.Facet.view g.T.Facet.shape.tree_of g.T.Facet.shape.always _ _ _ xs l.item-index c.end_seq.result (omega arith) l.invariant c.end_seq.ensures.appends in
-    rw c.as_slice-item-items.ensures.value at done
+    let done = list-ended g.T.Facet.view g.T.Facet.shape.tree_of g.T.Facet.shape.always _ _ xs l.item-index c.end_seq.result (omega arith) l.invariant _ c.end_seq.ensures.appends in
+    rw c.as_slice-item-items.ensures.value at done.written
 
 pub returns-clause-refused : goal.returns-clause-refused
 returns-clause-refused g c =
     let l = c.loop-item in
-    list-refused g.T.Facet.view g.T.Facet.shape.tree_of g.T.Facet.shape.always _ _ _ c.as_slice-item-items.result.now l.item-index c.end_seq.result (omega arith) l.invariant
-    c.end_seq.ensures.appends
+    (list-ended g.T.Facet.view g.T.Facet.shape.tree_of g.T.Facet.shape.always _ _ c.as_slice-item-items.result.now l.item-index c.end_seq.result (omega arith) l.invariant
+    _ c.end_seq.ensures.appends).refused
 
 pub returns-clause-spent : goal.returns-clause-spent
 returns-clause-spent g c =
     let l = c.loop-item in
-    list-spent g.T.Facet.view g.T.Facet.shape.tree_of g.T.Facet.shape.always _ _ _ c.as_slice-item-items.result.now l.item-index c.end_seq.result (omega arith) l.invariant
-    c.end_seq.ensures.appends
+    (list-ended g.T.Facet.view g.T.Facet.shape.tree_of g.T.Facet.shape.always _ _ c.as_slice-item-items.result.now l.item-index c.end_seq.result (omega arith) l.invariant
+    _ c.end_seq.ensures.appends).spent
 
 pub returns-clause-of_rust : goal.returns-clause-of_rust
 returns-clause-of_rust g c =
     let l = c.loop-item in
     let xs = c.as_slice-item-items.result.now in
-    let done = list-of_rust g.T.Facet.view g.T.Facet.shape.tree_of g.T.Facet.shape.always _ _ _ xs l.item-index c.end_seq.result (omega arith) l.invariant c.end_seq.ensures.appends in
+    let done = list-of_rust g.T.Facet.view g.T.Facet.shape.tree_of g.T.Facet.shape.always _ _ xs l.item-index c.end_seq.result (omega arith) l.invariant in
     rw c.as_slice-item-items.ensures.value at done
 
 pub returns-clause-always : goal.returns-clause-always
 returns-clause-always g c =
     let l = c.loop-item in
     let xs = c.as_slice-item-items.result.now in
-    let done = list-have g.T.Facet.view g.T.Facet.shape.tree_of g.T.Facet.shape.always _ _ _ xs l.item-index c.end_seq.result (omega arith) l.invariant c.end_seq.ensures.appends in
+    let done = list-have g.T.Facet.view g.T.Facet.shape.tree_of g.T.Facet.shape.always _ _ xs l.item-index c.end_seq.result (omega arith) l.invariant in
     rw c.as_slice-item-items.ensures.value at done

@@ -1,10 +1,9 @@
 use Rattle.std.proofs.Common.{refl}
 use Rattle.std.proofs.lemmas.Result.{err_from_is_err_and}
-use Rattle.facet_json_tree.proofs.CallsLeft.{left-refused, left-spent, last-answered, last-refused, last-spent}
 use Rattle.facet_json_tree.proofs.OfRust.{seen-of_rust}
 use Rattle.facet_json_core.proofs.Meaning.Objects.MapEntries.{seen-map}
 use Rattle.facet_json_facet.proofs.ScalarsOfRust.{on-ok}
-use Rattle.facet_json_facet.proofs.MapCalls.{map-begun, key-left, entry-written, end-left, all-of_rust, all-have}
+use Rattle.facet_json_facet.proofs.MapCalls.{map-begun, key-refused, entry-written, map-ended, all-of_rust, all-have}
 use Rattle.facet_json_facet.proofs.maps.BTreeMapStringFacet.write.Goals as goal
 
 pub loop-key-init : goal.loop-key-init
@@ -14,14 +13,12 @@ loop-key-init g c =
 pub returns-in_err-field_key-clause-refused : goal.returns-in_err-field_key-clause-refused
 returns-in_err-field_key-clause-refused g c =
     let p = err_from_is_err_and c.from_residual-in_err-field_key.result c.from_residual-in_err-field_key.ensures.1 in
-    let left = key-left g.T.Facet.view g.T.Facet.shape.tree_of g.T.Facet.shape.always _ _ _ _ _ _ _ c.as_str.result.now c.loop-key.invariant c.in-Some.ensures.steps c.as_str.ensures.value in
-    rw (p.1, p.2) (left-refused _ _ _ _ _ _ _ left c.in_err-field_key.ensures.appends)
+    rw (p.1, p.2) (key-refused g.T.Facet.view g.T.Facet.shape.tree_of g.T.Facet.shape.always _ _ _ _ _ _ _ _ c.as_str.result.now _ c.loop-key.invariant c.in-Some.ensures.steps c.as_str.ensures.value c.in_err-field_key.ensures.appends).0
 
 pub returns-in_err-field_key-clause-spent : goal.returns-in_err-field_key-clause-spent
 returns-in_err-field_key-clause-spent g c =
     let p = err_from_is_err_and c.from_residual-in_err-field_key.result c.from_residual-in_err-field_key.ensures.1 in
-    let left = key-left g.T.Facet.view g.T.Facet.shape.tree_of g.T.Facet.shape.always _ _ _ _ _ _ _ c.as_str.result.now c.loop-key.invariant c.in-Some.ensures.steps c.as_str.ensures.value in
-    rw (p.1) (left-spent _ _ _ _ _ _ _ left c.in_err-field_key.ensures.appends)
+    rw (p.1) (key-refused g.T.Facet.view g.T.Facet.shape.tree_of g.T.Facet.shape.always _ _ _ _ _ _ _ _ c.as_str.result.now _ c.loop-key.invariant c.in-Some.ensures.steps c.as_str.ensures.value c.in_err-field_key.ensures.appends).1
 
 pub loop-key-preserved : goal.loop-key-preserved
 loop-key-preserved g c =
@@ -30,18 +27,15 @@ loop-key-preserved g c =
 
 pub returns-clause-written : goal.returns-clause-written
 returns-clause-written g c =
-    let left = end-left g.T.Facet.view g.T.Facet.shape.tree_of g.T.Facet.shape.always _ _ _ _ c.loop-key.invariant c.in-None.ensures.steps.0 in
-    last-answered _ _ _ _ _ c.end_struct.result left c.end_struct.ensures.appends
+    (map-ended g.T.Facet.view g.T.Facet.shape.tree_of g.T.Facet.shape.always _ _ _ _ c.loop-key.invariant c.in-None.ensures.steps.0 _ c.end_struct.result c.end_struct.ensures.appends).written
 
 pub returns-clause-refused : goal.returns-clause-refused
 returns-clause-refused g c =
-    let left = end-left g.T.Facet.view g.T.Facet.shape.tree_of g.T.Facet.shape.always _ _ _ _ c.loop-key.invariant c.in-None.ensures.steps.0 in
-    last-refused _ _ _ _ _ c.end_struct.result left c.end_struct.ensures.appends
+    (map-ended g.T.Facet.view g.T.Facet.shape.tree_of g.T.Facet.shape.always _ _ _ _ c.loop-key.invariant c.in-None.ensures.steps.0 _ c.end_struct.result c.end_struct.ensures.appends).refused
 
 pub returns-clause-spent : goal.returns-clause-spent
 returns-clause-spent g c =
-    let left = end-left g.T.Facet.view g.T.Facet.shape.tree_of g.T.Facet.shape.always _ _ _ _ c.loop-key.invariant c.in-None.ensures.steps.0 in
-    last-spent _ _ _ _ _ c.end_struct.result left c.end_struct.ensures.appends
+    (map-ended g.T.Facet.view g.T.Facet.shape.tree_of g.T.Facet.shape.always _ _ _ _ c.loop-key.invariant c.in-None.ensures.steps.0 _ c.end_struct.result c.end_struct.ensures.appends).spent
 
 pub returns-clause-of_rust : goal.returns-clause-of_rust
 returns-clause-of_rust g c =

@@ -7,9 +7,9 @@ use Rattle.facet_json_facet.proofs.options.OptionFacet.write.Goals as goal
 
 pub returns-in-None-clause-written : goal.returns-in-None-clause-written
 returns-in-None-clause-written g c =
-    scalar-called _ _ _ _ c.scalar.result
+    (scalar-called _ _ _ _ c.scalar.result
     (ap (λ o. optional_tree g.T.Facet.shape.tree_of (option_map g.T.Facet.view o)) c.in-None.is)
-    c.scalar.ensures.appends
+    c.scalar.ensures.appends).written
 
 pub returns-in-None-clause-of_rust : goal.returns-in-None-clause-of_rust
 returns-in-None-clause-of_rust g c = rw c.in-None.is (on-ok _ c.scalar.result null-of_rust)

@@ -10,7 +10,7 @@ use Rattle.facet_json_facet.proofs.raw.RawJsonFacet.write.Goals as goal
 
 pub returns-clause-written : goal.returns-clause-written
 unfolding text
-returns-clause-written c = raw-called _ _ _ (raw (bytes_of c.args.self.now)) c.raw_scalar.result (λ o depth. c.as_str.ensures) c.raw_scalar.ensures.appends
+returns-clause-written c = (raw-called _ _ _ (raw (bytes_of c.args.self.now)) c.raw_scalar.result (λ o depth. c.as_str.ensures) c.raw_scalar.ensures.appends).written
 
 pub returns-clause-of_rust : goal.returns-clause-of_rust
 returns-clause-of_rust c =

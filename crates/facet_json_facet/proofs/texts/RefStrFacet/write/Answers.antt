@@ -5,7 +5,7 @@ use Rattle.facet_json_facet.proofs.ScalarsOfRust.{on-ok, text-of_rust}
 use Rattle.facet_json_facet.proofs.texts.RefStrFacet.write.Goals as goal
 
 pub returns-clause-written : goal.returns-clause-written
-returns-clause-written c = scalar-called _ _ _ _ c.scalar.result refl c.scalar.ensures.appends
+returns-clause-written c = (scalar-called _ _ _ _ c.scalar.result refl c.scalar.ensures.appends).written
 
 pub returns-clause-of_rust : goal.returns-clause-of_rust
 returns-clause-of_rust c =

@@ -1,6 +1,7 @@
 use Rattle.std.proofs.Common.{sym, rules, arith}
+use Rattle.std.proofs.lemmas.Result.{err_from_is_err_and}
 use Rattle.facet_json_document.proofs.NodesSeen.{empty-value, list-of, object-of, leaf-of, nothing-of}
-use Rattle.facet_json_document.proofs.NodesWritten.{items-begun, members-begun, item-written, member-written, key-refused, key-spent, items-ended, members-ended}
+use Rattle.facet_json_document.proofs.NodesWritten.{items-begun, members-begun, item-written, member-written, key-refused, items-ended, members-ended}
 use Rattle.facet_json_document.proofs.document.value.writing.+write.Goals as goal
 
 pub write_items-returns-clause-written : goal.write_items-returns-clause-written
@@ -73,13 +74,13 @@ write_members-loop-key-init t c = record {
 
 pub write_members-returns-in_err-field_key-clause-refused : goal.write_members-returns-in_err-field_key-clause-refused
 write_members-returns-in_err-field_key-clause-refused t c =
-    let why = key-refused c.args.value.now _ _ _ c.loop-key.at _ _ _ c.loop-key.invariant.left c.in-Some.ensures c.in_err-field_key.ensures.appends in
-    search rules
+    let p = err_from_is_err_and c.from_residual-in_err-field_key.result c.from_residual-in_err-field_key.ensures.1 in
+    rw (p.1, p.2) (key-refused c.args.value.now _ _ _ c.loop-key.at _ _ _ c.loop-key.invariant.left c.in-Some.ensures c.in_err-field_key.ensures.appends).0
 
 pub write_members-returns-in_err-field_key-clause-spent : goal.write_members-returns-in_err-field_key-clause-spent
 write_members-returns-in_err-field_key-clause-spent t c =
-    let gone = key-spent c.args.value.now _ _ _ c.loop-key.at _ _ _ c.loop-key.invariant.left c.in-Some.ensures c.in_err-field_key.ensures.appends in
-    search rules
+    let p = err_from_is_err_and c.from_residual-in_err-field_key.result c.from_residual-in_err-field_key.ensures.1 in
+    rw p.1 (key-refused c.args.value.now _ _ _ c.loop-key.at _ _ _ c.loop-key.invariant.left c.in-Some.ensures c.in_err-field_key.ensures.appends).1
 
 pub write_members-loop-key-preserved : goal.write_members-loop-key-preserved
 write_members-loop-key-preserved t c =
