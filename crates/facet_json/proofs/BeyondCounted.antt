@@ -4,7 +4,7 @@ use Rattle.facet_format.specs.Span.{Span}
 use Rattle.facet_json_token.specs.Token.{Token, Fault}
 use Rattle.facet_json_token.specs.Tokens.{Tokens, ended, refused, next}
 use Rattle.facet_json_grammar.specs.Begun.{tokens_before}
-use Rattle.facet_json.specs.Nesting.{Bracket, opens, closes, neither, bracket_of, opening, closing, openings, closings, StandsBeyond}
+use Rattle.facet_json.specs.Nesting.{Bracket, opens, closes, neither, bracket_of, opening, closing, openings, closings, OpensAt, StandsBeyond}
 use Rattle.facet_json.specs.Inner.Nested.{beyond_at, tokens_beyond}
 
 -- After these tokens no more are open than may be, where so many were open before and so many more may be.
@@ -17,15 +17,10 @@ SomeOpen around front = closings front < around + openings front
 
 -- The bracket beyond among tokens where some are open before, and so many more may be.
 record BeyondFrom (around room : ℕ) (ts : Tokens) (span : Span) : Type 0 where
-  pub before : List Token
-  pub bracket : Token
-  pub rest : Tokens
-  pub comes : ts ≡ tokens_before before (next bracket rest)
-  pub there : bracket.span ≡ span
-  pub is_opening : bracket_of bracket.kind ≡ opens
-  pub full : around + openings before ≡ closings before + (around + room)
-  pub first : (front back : List Token) → before ≡ front ++ back → FewOpen around room front
-  pub within : (t : Token) (front back : List Token) → before ≡ (t ∷ front) ++ back → SomeOpen around (t ∷ front)
+  pub here : OpensAt ts span
+  pub full : around + openings here.before ≡ closings here.before + (around + room)
+  pub first : (front back : List Token) → here.before ≡ front ++ back → FewOpen around room front
+  pub within : (t : Token) (front back : List Token) → here.before ≡ (t ∷ front) ++ back → SomeOpen around (t ∷ front)
 
 -- A bracket leads from one such place to another, where some are open.
 record Leads (bracket : Bracket) (around room next_around next_room : ℕ) : Type 0 where
@@ -70,41 +65,38 @@ module _ (t : Token) (ts : Tokens) (around room next_around next_room : ℕ) (sp
   some-later front some = omega (arith, leads.counts, some)
 
   module _ (b : BeyondFrom next_around next_room ts span) where
-    first-sooner : (front back : List Token) → t ∷ b.before ≡ front ++ back → FewOpen around room front
+    first-sooner : (front back : List Token) → t ∷ b.here.before ≡ front ++ back → FewOpen around room front
     first-sooner [] back e = omega (arith)
     first-sooner (x ∷ front) back e =
-        subst (λ y. FewOpen around room (y ∷ front)) (same-head t x b.before (front ++ back) e)
-        (few-sooner front (b.first front back (same-tail t x b.before (front ++ back) e)))
+        subst (λ y. FewOpen around room (y ∷ front)) (same-head t x b.here.before (front ++ back) e)
+        (few-sooner front (b.first front back (same-tail t x b.here.before (front ++ back) e)))
 
-    within-sooner : (x : Token) (front back : List Token) → t ∷ b.before ≡ (x ∷ front) ++ back → SomeOpen around (x ∷ front)
+    within-sooner : (x : Token) (front back : List Token) → t ∷ b.here.before ≡ (x ∷ front) ++ back → SomeOpen around (x ∷ front)
     within-sooner x [] back e =
-        subst (λ y. SomeOpen around (y ∷ [])) (same-head t x b.before back e) (some-sooner [] (omega (arith, leads.goes_on)))
+        subst (λ y. SomeOpen around (y ∷ [])) (same-head t x b.here.before back e) (some-sooner [] (omega (arith, leads.goes_on)))
     within-sooner x (y ∷ front) back e =
-        subst (λ z. SomeOpen around (z ∷ y ∷ front)) (same-head t x b.before (y ∷ front ++ back) e)
-        (some-sooner (y ∷ front) (b.within y front back (same-tail t x b.before (y ∷ front ++ back) e)))
+        subst (λ z. SomeOpen around (z ∷ y ∷ front)) (same-head t x b.here.before (y ∷ front ++ back) e)
+        (some-sooner (y ∷ front) (b.within y front back (same-tail t x b.here.before (y ∷ front ++ back) e)))
 
     beyond-sooner : BeyondFrom around room (next t ts) span
     beyond-sooner = record {
-      before = t ∷ b.before;
-      bracket = b.bracket;
-      rest = b.rest;
-      comes = ap (next t) b.comes;
-      there = b.there;
-      is_opening = b.is_opening;
+      here = record {
+          before = t ∷ b.here.before;
+          bracket = b.here.bracket;
+          rest = b.here.rest;
+          comes = ap (next t) b.here.comes;
+          there = b.here.there;
+          is_opening = b.here.is_opening;
+      };
       full = omega (arith, b.full, leads.counts, leads.keeps);
       first = first-sooner;
       within = within-sooner;
     }
 
-  beyond-later : (b : BeyondFrom around room (next t ts) span) (others : List Token) → b.before ≡ t ∷ others →
-      ts ≡ tokens_before others (next b.bracket b.rest) → BeyondFrom next_around next_room ts span
+  beyond-later : (b : BeyondFrom around room (next t ts) span) (others : List Token) → b.here.before ≡ t ∷ others →
+      ts ≡ tokens_before others (next b.here.bracket b.here.rest) → BeyondFrom next_around next_room ts span
   beyond-later b others is comes = record {
-    before = others;
-    bracket = b.bracket;
-    rest = b.rest;
-    comes = comes;
-    there = b.there;
-    is_opening = b.is_opening;
+    here = record { before = others; bracket = b.here.bracket; rest = b.here.rest; comes = comes; there = b.here.there; is_opening = b.here.is_opening };
     full = omega (arith, subst (λ l. around + openings l ≡ closings l + (around + room)) is b.full, leads.counts, leads.keeps);
     first = λ front back e. few-later front (b.first (t ∷ front) back (is ∙ ap (λ l. t ∷ l) e));
     within = λ y front back e. some-later (y ∷ front) (b.within t (y ∷ front) back (is ∙ ap (λ l. t ∷ l) e));
@@ -115,12 +107,7 @@ module _ (t : Token) (ts : Tokens) (around room next_around next_room : ℕ) (sp
 module _ (t : Token) (ts : Tokens) (span : Span) where
   beyond-here : (around room : ℕ) → bracket_of t.kind ≡ opens → room ≡ 0 → t.span ≡ span → BeyondFrom around room (next t ts) span
   beyond-here around room is none there = record {
-    before = [];
-    bracket = t;
-    rest = ts;
-    comes = refl;
-    there = there;
-    is_opening = is;
+    here = record { before = []; bracket = t; rest = ts; comes = refl; there = there; is_opening = is };
     full = omega (arith, none);
     first = nowhere;
     within = λ x front back e. absurd (cc);
@@ -161,18 +148,18 @@ before-sound [] bracket rest ts f e is = absurd (cc)
 before-sound (x ∷ before) bracket rest ts f e is = absurd (cc)
 
 module _ (t : Token) (ts : Tokens) (span : Span) where
-  computed-here : (around room : ℕ) (b : BeyondFrom around room (next t ts) span) → b.before ≡ [] →
+  computed-here : (around room : ℕ) (b : BeyondFrom around room (next t ts) span) → b.here.before ≡ [] →
       beyond_at (bracket_of t.kind) t.span (tokens_beyond ts) around room ≡ Some span
   computed-here around room b is =
-      let comes = b.comes ∙ ap (λ l. tokens_before l (next b.bracket b.rest)) is in
-      let same : t ≡ b.bracket = cc in
+      let comes = b.here.comes ∙ ap (λ l. tokens_before l (next b.here.bracket b.here.rest)) is in
+      let same : t ≡ b.here.bracket = cc in
       let none : room ≡ 0 = omega (arith, subst (λ l. around + openings l ≡ closings l + (around + room)) is b.full) in
-      let opening : bracket_of t.kind ≡ opens = ap (λ x. bracket_of x.kind) same ∙ b.is_opening in
-      ap₂ (λ k r. beyond_at k t.span (tokens_beyond ts) around r) opening none ∙ ap (λ x. Some x.span) same ∙ ap Some b.there
+      let opening : bracket_of t.kind ≡ opens = ap (λ x. bracket_of x.kind) same ∙ b.here.is_opening in
+      ap₂ (λ k r. beyond_at k t.span (tokens_beyond ts) around r) opening none ∙ ap (λ x. Some x.span) same ∙ ap Some b.here.there
 
   computed-at : ((around room : ℕ) → BeyondFrom around room ts span → tokens_beyond ts around room ≡ Some span) → (bracket : Bracket) →
       bracket_of t.kind ≡ bracket → (around room : ℕ) (b : BeyondFrom around room (next t ts) span) (others : List Token) →
-      b.before ≡ t ∷ others → ts ≡ tokens_before others (next b.bracket b.rest) →
+      b.here.before ≡ t ∷ others → ts ≡ tokens_before others (next b.here.bracket b.here.rest) →
       around + opening bracket ≤ closing bracket + (around + room) → closing bracket < around + opening bracket →
       beyond_at bracket t.span (tokens_beyond ts) around room ≡ Some span
   computed-at again opens is around zero b others e comes few some = absurd (omega (arith, few))
@@ -188,13 +175,13 @@ module _ (t : Token) (ts : Tokens) (span : Span) where
       again (suc around) room (beyond-later t ts (suc around) room (suc around) room span (leads-neither _ around room is) b others e comes)
 
   computed-next : ((around room : ℕ) → BeyondFrom around room ts span → tokens_beyond ts around room ≡ Some span) →
-      (around room : ℕ) (b : BeyondFrom around room (next t ts) span) (before : List Token) → b.before ≡ before →
+      (around room : ℕ) (b : BeyondFrom around room (next t ts) span) (before : List Token) → b.here.before ≡ before →
       beyond_at (bracket_of t.kind) t.span (tokens_beyond ts) around room ≡ Some span
   computed-next again around room b [] is = computed-here around room b is
   computed-next again around room b (x ∷ others) is =
-      let comes = b.comes ∙ ap (λ l. tokens_before l (next b.bracket b.rest)) is in
+      let comes = b.here.comes ∙ ap (λ l. tokens_before l (next b.here.bracket b.here.rest)) is in
       let same : t ≡ x = cc in
-      let behind : ts ≡ tokens_before others (next b.bracket b.rest) = cc in
+      let behind : ts ≡ tokens_before others (next b.here.bracket b.here.rest) = cc in
       let begins = is ∙ ap (λ y. y ∷ others) (sym same) in
       let few = b.first (t ∷ []) others begins in
       let some = b.within t [] others begins in
@@ -202,9 +189,9 @@ module _ (t : Token) (ts : Tokens) (span : Span) where
 
 computed : (ts : Tokens) (span : Span) (around room : ℕ) → BeyondFrom around room ts span → tokens_beyond ts around room ≡ Some span
 unfolding tokens_beyond
-computed ended span around room b = absurd (before-some b.before b.bracket b.rest ended b.comes refl)
-computed (refused f) span around room b = absurd (before-sound b.before b.bracket b.rest (refused f) f b.comes refl)
-computed (next t ts) span around room b = computed-next t ts span (computed ts span) around room b b.before refl
+computed ended span around room b = absurd (before-some b.here.before b.here.bracket b.here.rest ended b.here.comes refl)
+computed (refused f) span around room b = absurd (before-sound b.here.before b.here.bracket b.here.rest (refused f) f b.here.comes refl)
+computed (next t ts) span around room b = computed-next t ts span (computed ts span) around room b b.here.before refl
 
 -- ---- an input
 
@@ -213,12 +200,7 @@ module _ (ts : Tokens) (limit : ℕ) (span : Span) where
   beyond-counted e =
       let b = counted ts span 0 limit e in
       record {
-        before = b.before;
-        bracket = b.bracket;
-        rest = b.rest;
-        comes = b.comes;
-        there = b.there;
-        is_opening = b.is_opening;
+        here = b.here;
         around = omega (arith, b.full);
         first = λ front back is. omega (arith, b.first front back is);
         within = λ t front back is. omega (arith, b.within t front back is);
@@ -227,12 +209,7 @@ module _ (ts : Tokens) (limit : ℕ) (span : Span) where
   pub counted-beyond : StandsBeyond limit ts span → tokens_beyond ts 0 limit ≡ Some span
   counted-beyond b =
       computed ts span 0 limit (record {
-        before = b.before;
-        bracket = b.bracket;
-        rest = b.rest;
-        comes = b.comes;
-        there = b.there;
-        is_opening = b.is_opening;
+        here = b.here;
         full = omega (arith, b.around);
         first = λ front back is. omega (arith, b.first front back is);
         within = λ t front back is. omega (arith, b.within t front back is);

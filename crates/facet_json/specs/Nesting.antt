@@ -43,18 +43,22 @@ abbrev pub closings : List Token → ℕ
 closings [] = 0
 closings (t ∷ ts) = closing (bracket_of t.kind) + closings ts
 
--- Among the tokens there is an opening bracket, at this span, with so many others around it, and it is the first: before it no more are open
--- anywhere, and from the first token on at least one is, so that it belongs to the value that begins there.
-pub record StandsBeyond (limit : ℕ) (ts : Tokens) (span : Span) : Type 0 where
+-- Among the tokens there is an opening bracket, at this span.
+pub record OpensAt (ts : Tokens) (span : Span) : Type 0 where
   pub before : List Token
   pub bracket : Token
   pub rest : Tokens
   pub comes : ts ≡ tokens_before before (next bracket rest)
   pub there : bracket.span ≡ span
   pub is_opening : bracket_of bracket.kind ≡ opens
-  pub around : openings before ≡ closings before + limit
-  pub first : (front back : List Token) → before ≡ front ++ back → openings front ≤ closings front + limit
-  pub within : (t : Token) (front back : List Token) → before ≡ (t ∷ front) ++ back → closings (t ∷ front) < openings (t ∷ front)
+
+-- There is one with so many others around it, and it is the first: before it no more are open anywhere, and from the first token on at least one
+-- is, so that it belongs to the value that begins there.
+pub record StandsBeyond (limit : ℕ) (ts : Tokens) (span : Span) : Type 0 where
+  pub here : OpensAt ts span
+  pub around : openings here.before ≡ closings here.before + limit
+  pub first : (front back : List Token) → here.before ≡ front ++ back → openings front ≤ closings front + limit
+  pub within : (t : Token) (front back : List Token) → here.before ≡ (t ∷ front) ++ back → closings (t ∷ front) < openings (t ∷ front)
 
 -- The same where there may be no limit.
 abbrev pub IsBeyond : Option ℕ → Tokens → Span → Type 0

@@ -23,6 +23,7 @@ use facet_json_parser::JsonParser;
 use facet_json_reader::{Contexts, Language, Place, Reader, Stage};
 use facet_json_token::Mode;
 use facet_json_token::cutting::skip_gap;
+use facet_json_tree::parser_of;
 use std::alloc::Global;
 
 /// Checks that the bytes begin with a document without comments (RFC 8259, sections 2 to 7, with lenient readings such as a trailing
@@ -44,8 +45,7 @@ pub fn check<'t>(alloc: Global, input: &[u8]) -> Result<(), DeserializeError<'t>
     ensures refused { IfErr result (λ e. LacksMemory (refusal_of e) ⊎ Refuses input.now plain (refusal_of e)) }
     ensures within { IfErr result (λ e. RefusalWithin input.now (refusal_of e)) }
 {
-    last_token(alloc, input, Mode::Plain)?;
-    Ok(())
+    check_in(alloc, input, Mode::Plain)
 }
 
 /// Checks as `check`, where comments may stand wherever white space may.
@@ -63,8 +63,7 @@ pub fn check_jsonc<'t>(alloc: Global, input: &[u8]) -> Result<(), DeserializeErr
     ensures refused { IfErr result (λ e. LacksMemory (refusal_of e) ⊎ Refuses input.now jsonc (refusal_of e)) }
     ensures within { IfErr result (λ e. RefusalWithin input.now (refusal_of e)) }
 {
-    last_token(alloc, input, Mode::Jsonc)?;
-    Ok(())
+    check_in(alloc, input, Mode::Jsonc)
 }
 
 /// Checks that the bytes are one text of RFC 8259, with white space alone around it, as `tree_from_slice_strict` reads.
@@ -108,6 +107,17 @@ pub fn check_whole<'t>(alloc: Global, text: &[u8], mode: Mode) -> Result<(), Des
     pass_behind(alloc, text, mode, last)
 }
 
+/// Checks as `check`, with these gaps between tokens.
+fn check_in<'t>(alloc: Global, input: &[u8], mode: Mode) -> Result<(), DeserializeError<'t>>
+    ensures document { OnOk result (BeginsDocument input.now (mode_of mode)) }
+    ensures only { BeginsDocument input.now (mode_of mode) → IfErr result (λ e. LacksMemory (refusal_of e)) }
+    ensures refused { IfErr result (λ e. LacksMemory (refusal_of e) ⊎ Refuses input.now (mode_of mode) (refusal_of e)) }
+    ensures within { IfErr result (λ e. RefusalWithin input.now (refusal_of e)) }
+{
+    last_token(alloc, input, mode)?;
+    Ok(())
+}
+
 /// The last token of a document, all of whose events are passed.
 fn last_token<'t>(alloc: Global, text: &[u8], mode: Mode) -> Result<Span, DeserializeError<'t>>
     ensures up { IfOk result (λ last. PassesUp (fresh text.now (mode_of mode)) (span_of last)) }
@@ -115,10 +125,7 @@ fn last_token<'t>(alloc: Global, text: &[u8], mode: Mode) -> Result<Span, Deseri
     ensures refused { IfErr result (λ e. LacksMemory (refusal_of e) ⊎ Refuses text.now (mode_of mode) (refusal_of e)) }
     ensures within { IfErr result (λ e. RefusalWithin text.now (refusal_of e)) }
 {
-    match mode {
-        Mode::Plain => pass_up(&mut JsonParser::new(alloc, text)),
-        Mode::Jsonc => pass_up(&mut JsonParser::new_jsonc(alloc, text)),
-    }
+    pass_up(&mut parser_of(alloc, text, mode))
 }
 
 /// Passes all events, and answers the last token.

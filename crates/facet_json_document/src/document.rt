@@ -29,6 +29,7 @@ use build::build;
 use facet_format::{DeserializeError, ScalarValue};
 use facet_json_parser::JsonParser;
 use facet_json_token::Mode;
+use facet_json_tree::parser_of;
 pub use held::{Items, Members};
 use node::Node;
 pub use node::ValueKind;
@@ -78,8 +79,7 @@ impl<'i> Document<'i> {
             → MatchResult result (λ d. document_view d ≡ value) (λ e. LacksMemory (refusal_of e)) }
         ensures within { IfErr result (λ e. RefusalWithin input.now (refusal_of e)) }
     {
-        let (nodes, held) = lenient_nodes(alloc, input, Mode::Plain, None)?;
-        Ok(Document { input, nodes, held })
+        Document::parse_in(alloc, input, Mode::Plain)
     }
 
     /// Reads as `parse`, where comments may stand wherever white space may.
@@ -103,8 +103,7 @@ impl<'i> Document<'i> {
             → MatchResult result (λ d. document_view d ≡ value) (λ e. LacksMemory (refusal_of e)) }
         ensures within { IfErr result (λ e. RefusalWithin input.now (refusal_of e)) }
     {
-        let (nodes, held) = lenient_nodes(alloc, input, Mode::Jsonc, None)?;
-        Ok(Document { input, nodes, held })
+        Document::parse_in(alloc, input, Mode::Jsonc)
     }
 
     /// Reads one text of RFC 8259, with white space alone around it, as `tree_from_slice_strict` does.
@@ -161,8 +160,7 @@ impl<'i> Document<'i> {
         ensures refused { IfErr result (λ e. LacksMemory (refusal_of e) ⊎ RefusesWithin input.now plain depth (refusal_of e)) }
         ensures within { IfErr result (λ e. RefusalWithin input.now (refusal_of e)) }
     {
-        let (nodes, held) = lenient_nodes(alloc, input, Mode::Plain, Some(depth))?;
-        Ok(Document { input, nodes, held })
+        Document::parse_within_in(alloc, input, Mode::Plain, depth)
     }
 
     /// Reads as `parse_jsonc`, where the document nests no deeper than `depth`, which counts as in `parse_within`. A bracket within a
@@ -190,8 +188,7 @@ impl<'i> Document<'i> {
         ensures only { (root : Root) (value : Tree) → IsDocument input.now jsonc root value → depth_of root ≤ depth
             → MatchResult result (λ d. document_view d ≡ value) (λ e. LacksMemory (refusal_of e)) }
     {
-        let (nodes, held) = lenient_nodes(alloc, input, Mode::Jsonc, Some(depth))?;
-        Ok(Document { input, nodes, held })
+        Document::parse_within_in(alloc, input, Mode::Jsonc, depth)
     }
 
     /// Reads as `parse_strict`, where the text nests no deeper than `depth`, which counts as in `parse_within`.
@@ -223,6 +220,48 @@ impl<'i> Document<'i> {
         Ok(Document { input, nodes, held })
     }
 
+    /// Reads as `parse`, with these gaps between tokens.
+    fn parse_in<'t>(
+        alloc: Global,
+        input: &'i [u8],
+        mode: Mode,
+    ) -> Result<Document<'i>, DeserializeError<'t>>
+        ensures document { IfOk result (λ d. (root : Root) × IsDocument input.now (mode_of mode) root (document_view d)) }
+        ensures nodes { (root : Root) (value : Tree) → IsDocument input.now (mode_of mode) root value
+            → IfOk result (λ d. document_nodes d ≡ as_nodes input.now root) }
+        ensures refused { IfErr result (λ e. LacksMemory (refusal_of e) ⊎ Refuses input.now (mode_of mode) (refusal_of e)) }
+        ensures only { (root : Root) (value : Tree) → IsDocument input.now (mode_of mode) root value
+            → MatchResult result (λ d. document_view d ≡ value) (λ e. LacksMemory (refusal_of e)) }
+        ensures within { IfErr result (λ e. RefusalWithin input.now (refusal_of e)) }
+    {
+        let (nodes, held) = lenient_nodes(alloc, input, mode, None)?;
+        Ok(Document { input, nodes, held })
+    }
+
+    /// Reads as `parse_within`, with these gaps between tokens.
+    fn parse_within_in<'t>(
+        alloc: Global,
+        input: &'i [u8],
+        mode: Mode,
+        depth: usize,
+    ) -> Result<Document<'i>, DeserializeError<'t>>
+        ensures document { IfOk result
+            (λ d. (root : Root) × IsDocument input.now (mode_of mode) root (document_view d) × (depth_of root ≤ depth)) }
+        ensures nodes { (root : Root) (value : Tree) → IsDocument input.now (mode_of mode) root value
+            → IfOk result (λ d. document_nodes d ≡ as_nodes input.now root) }
+        ensures only { (root : Root) (value : Tree) → IsDocument input.now (mode_of mode) root value → depth_of root ≤ depth
+            → MatchResult result (λ d. document_view d ≡ value) (λ e. LacksMemory (refusal_of e)) }
+        ensures deeper { (root : Root) (value : Tree) (s : Span) → IsDocument input.now (mode_of mode) root value
+            → first_beyond depth root ≡ Some s
+            → MatchResult result (λ _. ⊥) (λ e. LacksMemory (refusal_of e) ⊎ (refusal_of e ≡ too_deep_at s)) }
+        ensures refused { IfErr result
+            (λ e. LacksMemory (refusal_of e) ⊎ RefusesWithin input.now (mode_of mode) depth (refusal_of e)) }
+        ensures within { IfErr result (λ e. RefusalWithin input.now (refusal_of e)) }
+    {
+        let (nodes, held) = lenient_nodes(alloc, input, mode, Some(depth))?;
+        Ok(Document { input, nodes, held })
+    }
+
     /// The document's value.
     ///
     /// ```text
@@ -249,15 +288,7 @@ fn lenient_nodes<'i, 't>(
         (λ e. LacksMemory (refusal_of e) ⊎ GetsStuckWithin depth (fresh input.now (mode_of mode)) (refusal_of e)) }
     ensures within { IfErr result (λ e. RefusalWithin input.now (refusal_of e)) }
 {
-    match mode {
-        Mode::Plain => build(alloc, input, &mut JsonParser::new(alloc, input), depth),
-        Mode::Jsonc => build(
-            alloc,
-            input,
-            &mut JsonParser::new_jsonc(alloc, input),
-            depth,
-        ),
-    }
+    build(alloc, input, &mut parser_of(alloc, input, mode), depth)
 }
 
 /// The nodes of the text of RFC 8259 that the bytes are, likewise.

@@ -1,3 +1,3 @@
 -- Lemmas that the laws of private traits want here.
-pub mod NumberLaws
+pub mod Numbers
 pub mod Taking

@@ -8,16 +8,15 @@ pub mod laws;
 mod leaves;
 mod lists;
 mod maps;
+mod numbers;
 mod options;
 mod prefix;
 mod raw;
 mod reading;
-mod signed;
 mod strict;
 mod texts;
 mod trees;
 mod truth;
-mod unsigned;
 mod whole;
 mod wide;
 

@@ -20,53 +20,24 @@ use std::num::TryFromIntError;
 
 /// A type of whole numbers of at most 64 bits.
 pub(crate) trait Number: TryFrom<i128, Error = TryFromIntError> + Drop {
-    ghost use Rattle.std.specs.Prelude.{◌≡◌, ℕ, List, ℤ, Option, Some, None, Result, IfOk, IfErr};
-    ghost use Rattle.std.specs.Option.{option_and_then};
-    ghost use Rattle.facet_json_grammar.specs.Tree.{Tree};
-    ghost use Rattle.facet_json_tree.specs.Write.{IsOfRust};
-    ghost use Rattle.facet_json_core.specs.Meaning.Laws.{ReadsBack};
-    ghost use Rattle.facet_json_core.specs.Meaning.Readings.{leaf, whole_of};
+    ghost use Rattle.std.specs.Prelude.{◌≡◌};
+    ghost use Rattle.facet_json_facet.specs.Inner.Numbers.{NumberType, NumberLaws};
 
-    /// What the type is called.
-    ghost called: { List ℕ };
-
-    /// The number as a value, where the type holds it.
-    ghost holds: { ℤ → Option Self };
-
-    /// The tree as which a value is written.
-    ghost tree_of: { Self → Tree };
-
-    /// The value lies within the bits of the type.
-    ghost fits: { Self → Type 0 };
-
-    /// What every value of the type has.
-    ghost always: { Self → Type 0 };
-
-    /// The value lies within 64 bits.
-    ghost fits_wide: { Self → Type 0 };
+    /// How the type is called, which numbers it holds, and as what a value is written.
+    ghost number: { NumberType Self };
 
     /// What the type is called.
     fn name() -> &'static str
-        ensures { result.now ≡ called };
+        ensures { result.now ≡ number.called };
 
     /// The scalar as which a value is written.
     fn wide(&self) -> ScalarValue<'_>
-        ensures tree { tree_of self.now ≡ scalar_tree (scalar_value_of result) }
-        ensures fits { fits self.now }
-        ensures fits_wide { fits_wide self.now };
+        ensures tree { number.tree_of self.now ≡ scalar_tree (scalar_value_of result) }
+        ensures fits { number.fits self.now }
+        ensures fits_wide { number.fits_wide self.now };
 
-    /// A number is converted where the type holds it, and not where it does not.
-    ghost tries: { (z : ℤ) (r : Result Self _) → Self.try_from_gives z r →
-        IfOk r (λ n. holds z ≡ Some n) × IfErr r (λ e. holds z ≡ None) };
-
-    /// Every value within the type's bits has it.
-    ghost fits_always: { (n : Self) → fits n → always n };
-
-    /// A value within 64 bits is a tree of Rust.
-    ghost of_rust: { (n : Self) → fits_wide n → IsOfRust (tree_of n) };
-
-    /// The text of a value reads as the value.
-    ghost reads_back: { ReadsBack (leaf (λ t. option_and_then holds (whole_of t))) tree_of always (λ _. Unit {0}) };
+    /// What converting a number gives, and what follows from a value's bits.
+    ghost laws: { NumberLaws number Self.try_from_gives };
 }
 
 impl<T: Number> Leaf for T {
@@ -82,13 +53,13 @@ impl<T: Number> Leaf for T {
 
     ghost view = { λ n. n };
 
-    ghost takes = { λ t. option_and_then T.holds (whole_of t) };
+    ghost takes = { λ t. option_and_then T.number.holds (whole_of t) };
 
-    ghost refuses = { λ given r. (r ≡ refusal_at (number_out_of_range T.called) given.span) ⊎ (r ≡ mismatch_of T.called given) };
+    ghost refuses = { λ given r. (r ≡ refusal_at (number_out_of_range T.number.called) given.span) ⊎ (r ≡ mismatch_of T.number.called given) };
 
-    ghost tree_of = { T.tree_of };
+    ghost tree_of = { T.number.tree_of };
 
-    ghost always = { T.always };
+    ghost always = { T.number.always };
 
     fn take<'t>(_alloc: Global, event: ParseEvent<'_>) -> Result<T, DeserializeError<'t>> {
         let span = event.span;
@@ -115,7 +86,7 @@ impl<T: Number> Leaf for T {
 
     ghost refuses_about = { λ given r told. inr (either-about given told refl) };
 
-    ghost reads_back = { T.reads_back };
+    ghost reads_back = { T.laws.reads_back };
 }
 
 /// The number as a value of the type.
@@ -125,10 +96,10 @@ impl<T: Number> Leaf for T {
 /// The type does not hold it: `NumberOutOfRange`, with this span.
 #[inline(always)]
 fn held<'t, T: Number>(number: i128, span: Span) -> Result<T, DeserializeError<'t>>
-    ensures is { IfOk result (λ n. T.holds number ≡ Some n) }
-    ensures none { IfErr result (λ e. T.holds number ≡ None) }
+    ensures is { IfOk result (λ n. T.number.holds number ≡ Some n) }
+    ensures none { IfErr result (λ e. T.number.holds number ≡ None) }
     ensures span { IfErr result (λ e. e.span ≡ Some span) }
-    ensures told { IfErr result (λ e. refusal_of e ≡ refusal_at (number_out_of_range T.called) (span_of span)) }
+    ensures told { IfErr result (λ e. refusal_of e ≡ refusal_at (number_out_of_range T.number.called) (span_of span)) }
 {
     match T::try_from(number) {
         Ok(n) => Ok(n),

@@ -1,7 +1,7 @@
 -- What each variant of a `Tree` stands for.
-use Rattle.std.proofs.Common.{◌≡◌, ℕ, suc, ◌+◌, ◌<◌, Bool, List, [], ◌∷◌, ◌++◌, length, get_or, drop, refl, sym, ap, ◌∙◌, rules, Vec, String, Global, string_bytes}
+use Rattle.std.proofs.Common.{◌≡◌, ℕ, suc, ◌+◌, ◌<◌, Bool, List, [], ◌∷◌, ◌++◌, length, get_or, drop, take, refl, sym, ap, ◌∙◌, rules, Vec, String, Global, string_bytes}
 use Rattle.std.specs.Prelude.{ℤ}
-use Rattle.std.proofs.lemmas.List.{drop_more}
+use Rattle.std.proofs.lemmas.List.{drop_more, take_more}
 use Rattle.facet_json_grammar.specs.Tree as tree
 use Rattle.facet_json_tree.specs.Views.{tree_view, trees_view, pairs_view}
 use Rattle.facet_json_tree.specs.declared.tree.Tree.{Tree, the_lemmas}
@@ -110,3 +110,10 @@ pub pairs_view-keyed : (ps : List (String Global × Tree)) (i : ℕ) (p : String
     → pairs_view (drop i ps) ≡ tree.pair key (tree_view p.1) (pairs_view (drop (i + 1) ps))
 pairs_view-keyed ps i p key h is named =
     pairs_view-drop ps i p h is ∙ ap (λ k. tree.pair k (tree_view p.1) (pairs_view (drop (i + 1) ps))) (sym named)
+
+-- One more item is pushed, which stands for one more of those that are taken.
+pub pushed-next : {A B : Type 0} (view seen : List A → B) (copies new items : List A) (i : ℕ) (x y : A) → new ≡ copies ++ y ∷ [] → i < length items
+    → x ≡ get_or items i x → view (copies ++ y ∷ []) ≡ seen (take i items ++ x ∷ []) → view new ≡ seen (take (i + 1) items)
+pushed-next view seen copies new items i x y pushed h is grown =
+    let more : take (i + 1) items ≡ take i items ++ x ∷ [] = take_more items i x h ∙ ap (λ z. take i items ++ z ∷ []) (sym is) in
+    ap view pushed ∙ grown ∙ ap seen (sym more)

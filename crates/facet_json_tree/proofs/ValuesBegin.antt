@@ -1,5 +1,5 @@
 -- How a value begins: with a whole tree or an empty container, or refused at its first event.
-use Rattle.std.proofs.Common.{◌≡◌, ◌≢◌, ◌≤◌, ◌+◌, inl, ℕ, true, false, List, Option, None, Some, Ok, refl, ap, ◌∙◌}
+use Rattle.std.proofs.Common.{◌≡◌, ◌≢◌, ◌≤◌, ◌+◌, inl, ℕ, Bool, true, false, List, Option, None, Some, Ok, refl, ap, ◌∙◌}
 use Rattle.std.specs.Option.{IfSome}
 use Rattle.facet_format.specs.declared.span.Span.{Span}
 use Rattle.facet_format.specs.Complaint.{Refusal}
@@ -64,31 +64,30 @@ span-within (Some x) s end is h = rw is h
 
 -- ---- what is left to be read
 
+-- a list or an object
+abbrev holds_others : Tree → Bool
+holds_others (list ts) = true
+holds_others (pairs ps) = true
+holds_others _ = false
+
+scalar-plain : (value : Scalar) → IfSome (tree_of_scalar value) (λ t. holds_others t ≡ false)
+scalar-plain null = refl
+scalar-plain unit = refl
+scalar-plain (bool b) = refl
+scalar-plain (char c) = tt
+scalar-plain (i64 n) = refl
+scalar-plain (u64 n) = refl
+scalar-plain (i128 n) = tt
+scalar-plain (u128 n) = tt
+scalar-plain (decimal t) = refl
+scalar-plain (text t) = refl
+scalar-plain (bytes b) = tt
+
 pub scalar-no_list : (value : Scalar) (ts : Trees) → tree_of_scalar value ≡ Some (list ts) → ⊥
-scalar-no_list null ts e = cc
-scalar-no_list unit ts e = cc
-scalar-no_list (bool b) ts e = cc
-scalar-no_list (char c) ts e = cc
-scalar-no_list (i64 n) ts e = cc
-scalar-no_list (u64 n) ts e = cc
-scalar-no_list (i128 n) ts e = cc
-scalar-no_list (u128 n) ts e = cc
-scalar-no_list (decimal t) ts e = cc
-scalar-no_list (text t) ts e = cc
-scalar-no_list (bytes b) ts e = cc
+scalar-no_list value ts e = let plain = rw e at scalar-plain value in cc
 
 pub scalar-no_pairs : (value : Scalar) (ps : Pairs) → tree_of_scalar value ≡ Some (pairs ps) → ⊥
-scalar-no_pairs null ps e = cc
-scalar-no_pairs unit ps e = cc
-scalar-no_pairs (bool b) ps e = cc
-scalar-no_pairs (char c) ps e = cc
-scalar-no_pairs (i64 n) ps e = cc
-scalar-no_pairs (u64 n) ps e = cc
-scalar-no_pairs (i128 n) ps e = cc
-scalar-no_pairs (u128 n) ps e = cc
-scalar-no_pairs (decimal t) ps e = cc
-scalar-no_pairs (text t) ps e = cc
-scalar-no_pairs (bytes b) ps e = cc
+scalar-no_pairs value ps e = let plain = rw e at scalar-plain value in cc
 
 -- A list is read where its items are.
 pub list-filled : (limit : Option ℕ) (ts us : Trees) (f rest : Future) → (ts ≡ no_trees → AreItemsRead f us rest) →

@@ -30,7 +30,7 @@ pub use error::WriteError;
 pub use not_stored::NotStored;
 pub use owned_decimal::OwnedDecimal;
 pub use pointer_error::PointerError;
-pub use reader::{read_tree, tree_from_slice, tree_from_slice_jsonc};
+pub use reader::{parser_of, read_tree, tree_from_slice, tree_from_slice_jsonc};
 pub use strict::{tree_from_slice_strict, tree_from_slice_within_strict};
 pub use tree::Tree;
 pub use tree_calls::write_tree;

@@ -6,13 +6,14 @@ ghost use Rattle.facet_format.specs.Complaint.{out_of_memory, type_mismatch, ref
 ghost use Rattle.facet_format.specs.Event.{sequence_end, struct_end, array, object};
 ghost use Rattle.facet_format.specs.Views.{event_of, refusal_of, scalar_value_of, span_of};
 ghost use Rattle.facet_json_token.specs.Gap.{plain, jsonc};
+ghost use Rattle.facet_json_token.specs.Views.{mode_of};
 ghost use Rattle.facet_json_grammar.specs.Node.{Node};
 ghost use Rattle.facet_json_grammar.specs.Tree.{Tree as SpecTree};
 ghost use Rattle.facet_json_grammar.specs.Document.{IsDocument};
 ghost use Rattle.facet_json_grammar.specs.Future.{Future};
 ghost use Rattle.facet_json_grammar.specs.Meaning.{tree_of};
 ghost use Rattle.facet_json_grammar.specs.PrefixRefusal.{Refuses};
-ghost use Rattle.facet_json_grammar.specs.Now.{ahead, future_of};
+ghost use Rattle.facet_json_grammar.specs.Now.{ahead, fresh, future_of};
 ghost use Rattle.facet_json_grammar.specs.UnreadLaws.{RefusalWithin};
 ghost use Rattle.facet_json_core.specs.Told.{tree_of_scalar, is_member};
 ghost use Rattle.facet_json_core.specs.Reading.{LacksMemory, IsValueRead, IsValueUnread};
@@ -36,6 +37,7 @@ use facet_format::{
 };
 use facet_json_core::next_in_line;
 use facet_json_parser::JsonParser;
+use facet_json_token::Mode;
 use std::alloc::{AllocError, Global};
 
 /// Reads the plain document that the bytes begin with (RFC 8259, sections 2 to 7, with lenient readings such as a trailing comma). What
@@ -64,7 +66,7 @@ pub fn tree_from_slice<'t>(alloc: Global, input: &[u8]) -> Result<Tree, Deserial
         → MatchResult result (λ t. tree_view t ≡ value) (λ e. (refusal_of e).complaint ≡ out_of_memory) }
     ensures within { IfErr result (λ e. IfSome e.span (λ s. s.offset + s.len ≤ length input.now)) }
 {
-    document(alloc, JsonParser::new(alloc, input))
+    document(alloc, input, Mode::Plain)
 }
 
 /// Reads the document that the bytes begin with, which may have comments (`//` up to the line's end, `/*` up to `*/`) wherever white
@@ -86,7 +88,7 @@ pub fn tree_from_slice_jsonc<'t>(alloc: Global, input: &[u8]) -> Result<Tree, De
         → MatchResult result (λ t. tree_view t ≡ value) (λ e. (refusal_of e).complaint ≡ out_of_memory) }
     ensures within { IfErr result (λ e. IfSome e.span (λ s. s.offset + s.len ≤ length input.now)) }
 {
-    document(alloc, JsonParser::new_jsonc(alloc, input))
+    document(alloc, input, Mode::Jsonc)
 }
 
 /// Reads the value before which the parser stands, and passes it. A parser that was refused repeats its refusal.
@@ -124,14 +126,26 @@ pub fn read_tree<'t>(
     read_value(alloc, parser, None)
 }
 
-/// The tree of the document that a parser reads.
-fn document<'t>(alloc: Global, mut parser: JsonParser<'_>) -> Result<Tree, DeserializeError<'t>>
-    requires free { parser.cursor.refusal ≡ None }
-    ensures read { IfOk result (λ t. (left : Future) × IsValueRead (future_of parser.entry) (tree_view t) left) }
-    ensures refused { IfErr result (λ e. IsValueUnread parser.entry.buffer (future_of parser.entry) (refusal_of e)) }
-    ensures within { IfErr result (λ e. IfSome e.span (λ s. s.offset + s.len ≤ length parser.entry.buffer)) }
+/// The tree of the document that the bytes begin with, with these gaps between its tokens.
+fn document<'t>(alloc: Global, input: &[u8], mode: Mode) -> Result<Tree, DeserializeError<'t>>
+    ensures document { IfOk result (λ t. (root : Node) × IsDocument input.now (mode_of mode) root (tree_view t)) }
+    ensures refused { IfErr result (λ e. ((refusal_of e).complaint ≡ out_of_memory) ⊎ Refuses input.now (mode_of mode) (refusal_of e)) }
+    ensures only { (root : Node) (value : SpecTree) → IsDocument input.now (mode_of mode) root value
+        → MatchResult result (λ t. tree_view t ≡ value) (λ e. (refusal_of e).complaint ≡ out_of_memory) }
+    ensures within { IfErr result (λ e. IfSome e.span (λ s. s.offset + s.len ≤ length input.now)) }
 {
+    let mut parser = parser_of(alloc, input, mode);
     read_tree(alloc, &mut parser)
+}
+
+/// A parser of the bytes, with these gaps between their tokens.
+pub fn parser_of<'de>(alloc: Global, input: &'de [u8], mode: Mode) -> JsonParser<'de>
+    ensures { result ≡ fresh input.now (mode_of mode) }
+{
+    match mode {
+        Mode::Plain => JsonParser::new(alloc, input),
+        Mode::Jsonc => JsonParser::new_jsonc(alloc, input),
+    }
 }
 
 /// The value before which the parser stands, and within which no more containers than `depth` are opened around one another.

@@ -5,6 +5,7 @@ ghost use Rattle.facet_format.specs.Complaint.{out_of_memory};
 ghost use Rattle.facet_format.specs.Span.{Span as SpecSpan};
 ghost use Rattle.facet_format.specs.Views.{refusal_of};
 ghost use Rattle.facet_json_token.specs.Gap.{plain, jsonc};
+ghost use Rattle.facet_json_token.specs.Views.{mode_of};
 ghost use Rattle.facet_json_grammar.specs.Node.{Node};
 ghost use Rattle.facet_json_grammar.specs.Tree.{Tree as SpecTree};
 ghost use Rattle.facet_json_grammar.specs.Document.{IsDocument};
@@ -13,10 +14,11 @@ ghost use Rattle.facet_json_tree.specs.Depth.{depth_of, first_beyond, too_deep_a
 ghost use Rattle.facet_json_tree.specs.Inner.Beyond.{IsReadWithin, IsValueUnreadWithin};
 ghost use Rattle.facet_json_tree.specs.Views.{tree_view};
 
-use crate::reader::read_value;
+use crate::reader::{parser_of, read_value};
 use crate::tree::Tree;
 use facet_format::DeserializeError;
 use facet_json_parser::JsonParser;
+use facet_json_token::Mode;
 use std::alloc::Global;
 
 /// Reads the plain document that the bytes begin with, as `tree_from_slice` does, where it nests no deeper than `depth`: an array or
@@ -49,7 +51,7 @@ pub fn tree_from_slice_within<'t>(
     ensures refused { IfErr result (λ e. ((refusal_of e).complaint ≡ out_of_memory) ⊎ RefusesWithin input.now plain depth (refusal_of e)) }
     ensures within { IfErr result (λ e. IfSome e.span (λ s. s.offset + s.len ≤ length input.now)) }
 {
-    document_within(alloc, JsonParser::new(alloc, input), depth)
+    document_within(alloc, input, Mode::Plain, depth)
 }
 
 /// Reads the document that the bytes begin with, which may have comments, as `tree_from_slice_jsonc` does, where it nests no deeper
@@ -76,11 +78,31 @@ pub fn tree_from_slice_within_jsonc<'t>(
     ensures refused { IfErr result (λ e. ((refusal_of e).complaint ≡ out_of_memory) ⊎ RefusesWithin input.now jsonc depth (refusal_of e)) }
     ensures within { IfErr result (λ e. IfSome e.span (λ s. s.offset + s.len ≤ length input.now)) }
 {
-    document_within(alloc, JsonParser::new_jsonc(alloc, input), depth)
+    document_within(alloc, input, Mode::Jsonc, depth)
 }
 
-/// The tree of the document that a parser reads, which nests no deeper.
+/// The tree of the document that the bytes begin with, with these gaps between its tokens, which nests no deeper.
 fn document_within<'t>(
+    alloc: Global,
+    input: &[u8],
+    mode: Mode,
+    depth: usize,
+) -> Result<Tree, DeserializeError<'t>>
+    ensures document { IfOk result (λ t. (root : Node) × IsDocument input.now (mode_of mode) root (tree_view t) × (depth_of root ≤ depth)) }
+    ensures only { (root : Node) (value : SpecTree) → IsDocument input.now (mode_of mode) root value → depth_of root ≤ depth
+        → MatchResult result (λ t. tree_view t ≡ value) (λ e. (refusal_of e).complaint ≡ out_of_memory) }
+    ensures deeper { (root : Node) (value : SpecTree) (s : SpecSpan) → IsDocument input.now (mode_of mode) root value
+        → first_beyond depth root ≡ Some s
+        → MatchResult result (λ t. ⊥) (λ e. ((refusal_of e).complaint ≡ out_of_memory) ⊎ (refusal_of e ≡ too_deep_at s)) }
+    ensures refused { IfErr result
+        (λ e. ((refusal_of e).complaint ≡ out_of_memory) ⊎ RefusesWithin input.now (mode_of mode) depth (refusal_of e)) }
+    ensures within { IfErr result (λ e. IfSome e.span (λ s. s.offset + s.len ≤ length input.now)) }
+{
+    value_within(alloc, parser_of(alloc, input, mode), depth)
+}
+
+/// The tree of the value before which a parser stands, which nests no deeper.
+fn value_within<'t>(
     alloc: Global,
     mut parser: JsonParser<'_>,
     depth: usize,

@@ -15,33 +15,21 @@ loop-item-preserved g c =
 
 pub returns-clause-written : goal.returns-clause-written
 returns-clause-written g c =
-    let l = c.loop-item in
-    let xs = c.as_slice-item-items.result.now in
-    let done = list-ended g.T.Facet.view g.T.Facet.shape.tree_of g.T.Facet.shape.always _ _ xs l.item-index c.end_seq.result (omega arith) l.invariant _ c.end_seq.ensures.appends in
-    rw c.as_slice-item-items.ensures.value at done.written
+    rw c.as_slice-item-items.ensures.value at
+    (list-ended g.T.Facet.view g.T.Facet.shape.tree_of g.T.Facet.shape.always _ _ c.as_slice-item-items.result.now c.loop-item.item-index c.end_seq.result (omega arith) c.loop-item.invariant _ c.end_seq.ensures.appends).written
 
 pub returns-clause-refused : goal.returns-clause-refused
 returns-clause-refused g c =
-    let l = c.loop-item in
-    (list-ended g.T.Facet.view g.T.Facet.shape.tree_of g.T.Facet.shape.always _ _ c.as_slice-item-items.result.now l.item-index c.end_seq.result (omega arith) l.invariant
-    _ c.end_seq.ensures.appends).refused
+    (list-ended g.T.Facet.view g.T.Facet.shape.tree_of g.T.Facet.shape.always _ _ c.as_slice-item-items.result.now c.loop-item.item-index c.end_seq.result (omega arith) c.loop-item.invariant _ c.end_seq.ensures.appends).refused
 
 pub returns-clause-spent : goal.returns-clause-spent
 returns-clause-spent g c =
-    let l = c.loop-item in
-    (list-ended g.T.Facet.view g.T.Facet.shape.tree_of g.T.Facet.shape.always _ _ c.as_slice-item-items.result.now l.item-index c.end_seq.result (omega arith) l.invariant
-    _ c.end_seq.ensures.appends).spent
+    (list-ended g.T.Facet.view g.T.Facet.shape.tree_of g.T.Facet.shape.always _ _ c.as_slice-item-items.result.now c.loop-item.item-index c.end_seq.result (omega arith) c.loop-item.invariant _ c.end_seq.ensures.appends).spent
 
 pub returns-clause-of_rust : goal.returns-clause-of_rust
 returns-clause-of_rust g c =
-    let l = c.loop-item in
-    let xs = c.as_slice-item-items.result.now in
-    let done = list-of_rust g.T.Facet.view g.T.Facet.shape.tree_of g.T.Facet.shape.always _ _ xs l.item-index c.end_seq.result (omega arith) l.invariant in
-    rw c.as_slice-item-items.ensures.value at done
+    rw c.as_slice-item-items.ensures.value at (list-of_rust g.T.Facet.view g.T.Facet.shape.tree_of g.T.Facet.shape.always _ _ c.as_slice-item-items.result.now c.loop-item.item-index c.end_seq.result (omega arith) c.loop-item.invariant)
 
 pub returns-clause-always : goal.returns-clause-always
 returns-clause-always g c =
-    let l = c.loop-item in
-    let xs = c.as_slice-item-items.result.now in
-    let done = list-have g.T.Facet.view g.T.Facet.shape.tree_of g.T.Facet.shape.always _ _ xs l.item-index c.end_seq.result (omega arith) l.invariant in
-    rw c.as_slice-item-items.ensures.value at done
+    rw c.as_slice-item-items.ensures.value at (list-have g.T.Facet.view g.T.Facet.shape.tree_of g.T.Facet.shape.always _ _ c.as_slice-item-items.result.now c.loop-item.item-index c.end_seq.result (omega arith) c.loop-item.invariant)

@@ -80,7 +80,7 @@ write_members-returns-in_err-field_key-clause-refused t c =
 pub write_members-returns-in_err-field_key-clause-spent : goal.write_members-returns-in_err-field_key-clause-spent
 write_members-returns-in_err-field_key-clause-spent t c =
     let p = err_from_is_err_and c.from_residual-in_err-field_key.result c.from_residual-in_err-field_key.ensures.1 in
-    rw p.1 (key-refused c.args.value.now _ _ _ c.loop-key.at _ _ _ c.loop-key.invariant.left c.in-Some.ensures c.in_err-field_key.ensures.appends).1
+    rw (p.1) (key-refused c.args.value.now _ _ _ c.loop-key.at _ _ _ c.loop-key.invariant.left c.in-Some.ensures c.in_err-field_key.ensures.appends).1
 
 pub write_members-loop-key-preserved : goal.write_members-loop-key-preserved
 write_members-loop-key-preserved t c =
