@@ -1,6 +1,9 @@
 -- How errors are displayed.
 use Rattle.std.specs.Prelude.{ℕ, List, ◌++◌, Option, Some, None, codes}
+use Rattle.std.specs.Fmt.{◌++?◌, decimal}
 use Rattle.std.specs.Fmt.InlineText.{inline_text}
+use Rattle.facet_format.specs.Line.{line_at, column_at}
+use Rattle.facet_format.specs.Span.{Span}
 use Rattle.facet_format.specs.Views.{complaint_of}
 use Rattle.facet_format.specs.Message.{read_text}
 use Rattle.facet_json_serde.specs.declared.fault.Detail.{Detail}
@@ -30,3 +33,9 @@ kind_message NotOneValue = Some (codes "not one value")
 abbrev pub stream_message : StreamError → Option (List ℕ)
 stream_message (Json refused) = kind_message refused.kind
 stream_message (Io failed) = None
+
+-- The message, and where the place is known its line and column.
+abbrev pub placed_text : Option (List ℕ) → List ℕ → Option Span → Option (List ℕ)
+placed_text message source None = message
+placed_text message source (Some span) =
+    message ++? Some (codes " at line " ++ (decimal (line_at source span.offset) ++ (codes ", column " ++ decimal (column_at source span.offset))))

@@ -4,12 +4,12 @@ ghost use Rattle.std.specs.Prelude.{◌≡◌, length};
 ghost use Rattle.std.specs.Option.{option_map};
 ghost use Rattle.facet_format.specs.Views.{span_of};
 ghost use Rattle.facet_format.specs.Report.{report_text};
-ghost use Rattle.facet_json_serde.specs.Messages.{kind_message};
+ghost use Rattle.facet_json_serde.specs.Messages.{kind_message, placed_text};
 ghost use Rattle.facet_json_serde.specs.Within.{LiesWithin};
 
 use crate::fault::{Detail, ReadFault, ReadFaultKind, Refusal, Sort, WriteFault};
 use facet_format::message::write_message;
-use facet_format::{DeserializeErrorKind, Excerpt, ParseError, Span};
+use facet_format::{DeserializeErrorKind, Excerpt, ParseError, Position, Span, position_at};
 use std::fmt;
 
 /// What is wrong. Displayed, it is a message of one line for a person.
@@ -164,6 +164,33 @@ impl Error<'static> {
             source,
         }
     }
+
+    /// The error with its line and column in the source, which is the input as a text.
+    ///
+    /// ```text
+    /// format!(in alloc; "{}", error.at(text))?
+    ///
+    /// type mismatch: expected i64, got string at line 2, column 8
+    /// ```
+    pub fn at<'a>(&self, source: &'a str) -> Placed<'a>
+        ensures error { result.error ≡ self.now }
+        ensures source { result.source.now ≡ source.now }
+    {
+        Placed {
+            error: *self,
+            source,
+        }
+    }
+}
+
+/// An error with the source that its span is of. Displayed, it is the message, the line and the column: one line, as a log wants it. An error
+/// without a span is its message alone.
+#[derive(Debug, Clone, Copy, Drop)]
+pub struct Placed<'a> {
+    /// The error.
+    pub error: Error<'static>,
+    /// The source.
+    pub source: &'a str,
 }
 
 /// An error with the source that its span is of. Displayed, it is the message, the line and the column, then the line itself, and carets
@@ -203,6 +230,20 @@ impl fmt::Display for Error<'static> {
 
     fn fmt<W: fmt::Write>(&self, f: &mut fmt::Formatter<W>) -> fmt::Result {
         fmt::Display::fmt(&self.kind, f)
+    }
+}
+
+impl fmt::Display for Placed<'_> {
+    ghost output = { λ placed. placed_text (kind_message placed.error.kind) placed.source.now (option_map span_of placed.error.span) };
+
+    fn fmt<W: fmt::Write>(&self, f: &mut fmt::Formatter<W>) -> fmt::Result {
+        match self.error.span {
+            None => write!(f, "{}", self.error.kind),
+            Some(span) => {
+                let Position { line, column } = position_at(self.source.as_bytes(), span.offset);
+                write!(f, "{} at line {line}, column {column}", self.error.kind)
+            }
+        }
     }
 }
 

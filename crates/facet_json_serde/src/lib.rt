@@ -17,7 +17,7 @@ mod streams;
 mod writer;
 mod writing;
 
-pub use error::{Error, ErrorKind, Report};
+pub use error::{Error, ErrorKind, Placed, Report};
 pub use facet_format::{DeserializeErrorKind, Span};
 pub use facet_json_parser::JsonParser;
 pub use facet_json_serializer::{BytesFormat, HexBytesOptions, SerializeOptions};

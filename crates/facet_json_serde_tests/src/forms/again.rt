@@ -45,6 +45,18 @@ pub(crate) fn told(
     }
 }
 
+/// The text, or the error with its line and column in the input.
+pub(crate) fn placed(
+    alloc: Global,
+    answer: Result<String, Error<'static>>,
+    input: &str,
+) -> Result<String, AllocError> {
+    match answer {
+        Ok(text) => Ok(text),
+        Err(error) => format!(in alloc; "{}", error.at(input)),
+    }
+}
+
 /// The text, or what the error says.
 pub(crate) fn said(
     alloc: Global,

@@ -1,6 +1,6 @@
 //! The entry functions: with comments, strict, of a whole input, from bytes, from a reader and to a writer.
 
-use crate::forms::again::{are_bytes, expect_text, told, written};
+use crate::forms::again::{are_bytes, expect_text, placed, told, written};
 use facet_json_serde::{
     from_reader, from_slice, from_slice_strict, from_slice_whole, from_str_jsonc, from_str_strict,
     to_vec, to_writer,
@@ -22,6 +22,14 @@ fn languages_are_told_apart(rt: HostRuntime) -> Result<(), Fail> {
     let read = written::<u8>(alloc, from_slice_whole(alloc, b"7 x y"));
     let refused = "trailing characters at line 1, column 3\n7 x y\n  ^^^";
     expect_text(&rt, told(alloc, read, "7 x y"), refused)
+}
+
+#[test]
+fn errors_have_lines_and_columns(rt: HostRuntime) -> Result<(), Fail> {
+    let alloc = rt.alloc();
+    let read = written::<bool>(alloc, from_slice(alloc, b"\n 7"));
+    let refused = "type mismatch: expected bool, got integer at line 2, column 2";
+    expect_text(&rt, placed(alloc, read, "\n 7"), refused)
 }
 
 /// Whether the numbers are written so to a writer.

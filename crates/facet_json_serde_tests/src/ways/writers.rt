@@ -1,6 +1,6 @@
 //! Writers by hand: what is not one value is refused, and nothing is given out.
 
-use crate::forms::again::{expect_text, said};
+use crate::forms::again::{expect_text, placed, said};
 use facet_json_serde::{SerializeOptions, to_string, to_string_pretty, to_string_with_options};
 use serde::{Described, Serialize, Serializer};
 use std::test::Fail;
@@ -94,7 +94,8 @@ fn only_one_value_is_written(rt: HostRuntime) -> Result<(), Fail> {
     for (calls, refusal) in &CALLS {
         expect_text(&rt, said(alloc, to_string(alloc, &Calls(*calls))), *refusal)?;
     }
-    Ok(())
+    let no_place = placed(alloc, to_string(alloc, &Calls(&[])), "1");
+    expect_text(&rt, no_place, "not one value")
 }
 
 #[test]
