@@ -1,5 +1,5 @@
 -- How a value begins: with a whole tree or an empty container, or refused at its first event.
-use Rattle.std.proofs.Common.{◌≡◌, ◌≢◌, ◌≤◌, ◌+◌, inl, ℕ, Bool, true, false, List, Option, None, Some, Ok, refl, ap, ◌∙◌}
+use Rattle.std.proofs.Common.{◌≡◌, ◌≢◌, ◌≤◌, ◌+◌, inl, ℕ, Bool, true, false, List, Option, None, Some, Ok, refl, ap, subst, ◌∙◌}
 use Rattle.std.specs.Option.{IfSome}
 use Rattle.facet_format.specs.declared.span.Span.{Span}
 use Rattle.facet_format.specs.Complaint.{Refusal}
@@ -84,10 +84,10 @@ scalar-plain (text t) = refl
 scalar-plain (bytes b) = tt
 
 pub scalar-no_list : (value : Scalar) (ts : Trees) → tree_of_scalar value ≡ Some (list ts) → ⊥
-scalar-no_list value ts e = let plain = rw e at scalar-plain value in cc
+scalar-no_list value ts e = let plain = subst (λ o. IfSome o (λ t. holds_others t ≡ false)) e (scalar-plain value) in cc
 
 pub scalar-no_pairs : (value : Scalar) (ps : Pairs) → tree_of_scalar value ≡ Some (pairs ps) → ⊥
-scalar-no_pairs value ps e = let plain = rw e at scalar-plain value in cc
+scalar-no_pairs value ps e = let plain = subst (λ o. IfSome o (λ t. holds_others t ≡ false)) e (scalar-plain value) in cc
 
 -- A list is read where its items are.
 pub list-filled : (limit : Option ℕ) (ts us : Trees) (f rest : Future) → (ts ≡ no_trees → AreItemsRead f us rest) →

@@ -134,8 +134,7 @@ fn document<'t>(alloc: Global, input: &[u8], mode: Mode) -> Result<Tree, Deseria
         → MatchResult result (λ t. tree_view t ≡ value) (λ e. (refusal_of e).complaint ≡ out_of_memory) }
     ensures within { IfErr result (λ e. IfSome e.span (λ s. s.offset + s.len ≤ length input.now)) }
 {
-    let mut parser = parser_of(alloc, input, mode);
-    read_tree(alloc, &mut parser)
+    read_tree(alloc, &mut parser_of(alloc, input, mode))
 }
 
 /// A parser of the bytes, with these gaps between their tokens.
