@@ -24,7 +24,10 @@ fn is_text(alloc: Global, answer: Result<String, Error<'static>>, wanted: &str) 
 fn lacks_memory(answer: &Result<String, Error<'static>>) -> bool {
     match answer {
         Ok(_) => false,
-        Err(error) => matches!(error.kind, ErrorKind::Read(DeserializeErrorKind::OutOfMemory)),
+        Err(error) => matches!(
+            error.kind,
+            ErrorKind::Read(DeserializeErrorKind::OutOfMemory)
+        ),
     }
 }
 
