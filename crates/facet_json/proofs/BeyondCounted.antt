@@ -81,12 +81,12 @@ module _ (t : Token) (ts : Tokens) (around room next_around next_room : ℕ) (sp
     beyond-sooner : BeyondFrom around room (next t ts) span
     beyond-sooner = record {
       here = record {
-          before = t ∷ b.here.before;
-          bracket = b.here.bracket;
-          rest = b.here.rest;
-          comes = ap (next t) b.here.comes;
-          there = b.here.there;
-          is_opening = b.here.is_opening;
+        before = t ∷ b.here.before;
+        bracket = b.here.bracket;
+        rest = b.here.rest;
+        comes = ap (next t) b.here.comes;
+        there = b.here.there;
+        is_opening = b.here.is_opening;
       };
       full = omega (arith, b.full, leads.counts, leads.keeps);
       first = first-sooner;
