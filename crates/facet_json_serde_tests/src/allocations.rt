@@ -2,7 +2,7 @@
 //! memory, which is refused, and it has to pass in every such run. Each text is tried twice: as one request is refused in a run, memory runs out
 //! in one of the two at most, and the other gives the whole answer.
 
-use crate::forms::again::{rewritten, said};
+use crate::forms::again::{rewritten, shown};
 use crate::forms::enums::{Adjacent, Command};
 use crate::forms::structs::Account;
 use facet_json_serde::{DeserializeErrorKind, Error, ErrorKind};
@@ -14,7 +14,7 @@ fn is_text(alloc: Global, answer: Result<String, Error<'static>>, wanted: &str) 
     if lacks_memory(&answer) {
         return None;
     }
-    match said(alloc, answer) {
+    match shown(alloc, answer) {
         Ok(text) => Some(text.as_str() == wanted),
         Err(_) => None,
     }

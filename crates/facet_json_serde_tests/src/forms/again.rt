@@ -3,6 +3,7 @@
 use facet_json_serde::{Error, from_str, to_string};
 use serde::{Deserialize, Serialize};
 use std::alloc::{AllocError, Global};
+use std::fmt::Display;
 use std::process::Abort;
 use std::test::Fail;
 
@@ -39,32 +40,17 @@ pub(crate) fn told(
     answer: Result<String, Error<'static>>,
     input: &str,
 ) -> Result<String, AllocError> {
-    match answer {
-        Ok(text) => Ok(text),
-        Err(error) => format!(in alloc; "{}", error.report(input)),
-    }
+    shown(alloc, answer.map_err(|error| error.report(input)))
 }
 
-/// The text, or the error with its line and column in the input.
-pub(crate) fn placed(
+/// The text, or what is displayed in the place of one.
+pub(crate) fn shown<D: Display + Drop>(
     alloc: Global,
-    answer: Result<String, Error<'static>>,
-    input: &str,
+    answer: Result<String, D>,
 ) -> Result<String, AllocError> {
     match answer {
         Ok(text) => Ok(text),
-        Err(error) => format!(in alloc; "{}", error.at(input)),
-    }
-}
-
-/// The text, or what the error says.
-pub(crate) fn said(
-    alloc: Global,
-    answer: Result<String, Error<'static>>,
-) -> Result<String, AllocError> {
-    match answer {
-        Ok(text) => Ok(text),
-        Err(error) => format!(in alloc; "{error}"),
+        Err(other) => format!(in alloc; "{other}"),
     }
 }
 

@@ -1,6 +1,6 @@
 //! The entry functions: with comments, strict, of a whole input, from bytes, from a reader and to a writer.
 
-use crate::forms::again::{are_bytes, expect_text, placed, told, written};
+use crate::forms::again::{are_bytes, expect_text, shown, told, written};
 use facet_json_serde::{
     from_reader, from_slice, from_slice_strict, from_slice_whole, from_str_jsonc, from_str_strict,
     to_vec, to_writer,
@@ -29,7 +29,11 @@ fn errors_have_lines_and_columns(rt: HostRuntime) -> Result<(), Fail> {
     let alloc = rt.alloc();
     let read = written::<bool>(alloc, from_slice(alloc, b"\n 7"));
     let refused = "type mismatch: expected bool, got integer at line 2, column 2";
-    expect_text(&rt, placed(alloc, read, "\n 7"), refused)
+    expect_text(
+        &rt,
+        shown(alloc, read.map_err(|error| error.at("\n 7"))),
+        refused,
+    )
 }
 
 /// Whether the numbers are written so to a writer.

@@ -2,7 +2,7 @@
 
 use crate::by_hand::read_figure;
 use crate::figures::Figure;
-use crate::forms::again::{are_bytes, expect_text, said, written};
+use crate::forms::again::{are_bytes, expect_text, shown, written};
 use facet_json_serde::{Error, Json, JsonParser, JsonWriter, ReadFault, SerializeOptions};
 use serde::Serialize;
 use std::alloc::Global;
@@ -29,7 +29,7 @@ fn a_parser_is_held(rt: HostRuntime) -> Result<(), Fail> {
     let alloc = rt.alloc();
     assert!(rt; pair(alloc, b"/* two */ [1, 2]\n").ok() == Some((1, 2)));
     let refused = written(alloc, pair(alloc, b"[1, 2] ["));
-    expect_text(&rt, said(alloc, refused), "trailing characters")
+    expect_text(&rt, shown(alloc, refused), "trailing characters")
 }
 
 /// Whether the writer takes the value.

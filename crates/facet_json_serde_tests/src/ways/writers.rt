@@ -1,6 +1,6 @@
 //! Writers by hand: what is not one value is refused, and nothing is given out.
 
-use crate::forms::again::{expect_text, placed, said};
+use crate::forms::again::{expect_text, shown};
 use facet_json_serde::{SerializeOptions, to_string, to_string_pretty, to_string_with_options};
 use serde::{Described, Serialize, Serializer};
 use std::test::Fail;
@@ -92,18 +92,22 @@ static CALLS: [(&[Call], &str); 12] = [
 fn only_one_value_is_written(rt: HostRuntime) -> Result<(), Fail> {
     let alloc = rt.alloc();
     for (calls, refusal) in &CALLS {
-        expect_text(&rt, said(alloc, to_string(alloc, &Calls(*calls))), *refusal)?;
+        expect_text(
+            &rt,
+            shown(alloc, to_string(alloc, &Calls(*calls))),
+            *refusal,
+        )?;
     }
-    let no_place = placed(alloc, to_string(alloc, &Calls(&[])), "1");
-    expect_text(&rt, no_place, "not one value")
+    let refused = to_string(alloc, &Calls(&[])).map_err(|error| error.at("1"));
+    expect_text(&rt, shown(alloc, refused), "not one value")
 }
 
 #[test]
 fn layouts_are_those_of_the_options(rt: HostRuntime) -> Result<(), Fail> {
     let (alloc, value) = (rt.alloc(), (1u8, "x"));
-    let pretty = said(alloc, to_string_pretty(alloc, &value));
+    let pretty = shown(alloc, to_string_pretty(alloc, &value));
     expect_text(&rt, pretty, "[\n  1,\n  \"x\"\n]")?;
     let options = SerializeOptions::new().indent("\t");
-    let tabbed = said(alloc, to_string_with_options(alloc, &value, &options));
+    let tabbed = shown(alloc, to_string_with_options(alloc, &value, &options));
     expect_text(&rt, tabbed, "[\n\t1,\n\t\"x\"\n]")
 }
