@@ -42,6 +42,7 @@ pub mod Inner
 pub use Rattle.facet_json_facet.specs.Inputs
 pub use Rattle.facet_format.specs.Kept
 pub use Rattle.facet_json_grammar.specs.Language
+pub use Rattle.facet_json_reader.specs.LanguageViews
 pub use Rattle.facet_format.specs.Line
 pub mod LineViews
 pub mod Lines

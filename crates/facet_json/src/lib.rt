@@ -44,7 +44,7 @@ pub use facet_json_facet::{
 };
 pub use facet_json_fields::{Done, Fields, LentFields, Maybe, Need, read_fields, write_fields};
 pub use facet_json_parser::JsonParser;
-pub use facet_json_reader::{MaterializedToken, TokenKind};
+pub use facet_json_reader::{Language, MaterializedToken, TokenKind};
 pub use facet_json_serializer::{
     BytesFormat, HexBytesOptions, JsonSerializeError, JsonSerializer, SerializeOptions,
 };
@@ -53,8 +53,9 @@ pub use facet_json_tree::{
     tree_from_slice_jsonc, tree_from_slice_strict, tree_from_slice_within,
     tree_from_slice_within_jsonc, tree_from_slice_within_strict, write_tree,
 };
+pub use facet_json_token::Trust;
 pub use lines::{Line, LineError, Lines};
-pub use options::{Language, ReadOptions, from_slice_with_options, from_str_with_options};
+pub use options::{ReadOptions, from_slice_with_options, from_str_with_options};
 pub use writers::{to_writer_std, to_writer_std_pretty, to_writer_std_with_options};
 pub use writing::{
     to_string, to_string_pretty, to_string_with_options, to_vec, to_vec_pretty, to_vec_with_options,

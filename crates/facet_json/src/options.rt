@@ -3,40 +3,17 @@
 ghost use Rattle.std.specs.Prelude.{◌≡◌, false, true, Some, None, OnOk, OnErr, IfOk, IfErr, MatchResult};
 ghost use Rattle.facet_format.specs.Span.{Span as SpecSpan};
 ghost use Rattle.facet_format.specs.Views.{refusal_of};
-ghost use Rattle.facet_json_token.specs.Views.{mode_of};
 ghost use Rattle.facet_json_grammar.specs.UnreadLaws.{RefusalWithin};
 ghost use Rattle.facet_json_tree.specs.Depth.{too_deep_at};
-ghost use Rattle.facet_json.specs.Allowed.{gaps_of, IsTooDeep, ReadIn};
+ghost use Rattle.facet_json_reader.specs.LanguageViews.{language_of};
+ghost use Rattle.facet_json.specs.Allowed.{IsTooDeep, ReadIn};
 
 use crate::nesting::first_beyond;
 use facet_format::{DeserializeError, DeserializeErrorKind};
 use facet_json_facet::{Facet, first_value, whole_value};
 use facet_json_parser::JsonParser;
-use facet_json_token::Mode;
+use facet_json_reader::Language;
 use std::alloc::Global;
-
-/// Which texts are documents.
-#[derive(Debug, Clone, Copy, PartialEq, Eq)]
-pub enum Language {
-    /// RFC 8259 with lenient readings, such as a trailing comma.
-    Plain,
-    /// The same, and comments may stand wherever white space may.
-    Jsonc,
-    /// RFC 8259 alone, from the input's start to its end.
-    Strict,
-}
-
-impl Language {
-    /// What may stand between tokens.
-    fn mode(self) -> Mode
-        ensures { mode_of result ≡ gaps_of self }
-    {
-        match self {
-            Language::Plain | Language::Strict => Mode::Plain,
-            Language::Jsonc => Mode::Jsonc,
-        }
-    }
-}
 
 /// What a typed read allows.
 ///
@@ -162,7 +139,7 @@ pub fn from_slice_with_options<'t, 'de, T: Facet<'de>>(
     ensures deeper { (span : SpecSpan) → IsTooDeep options input.now span
         → MatchResult result (λ _. ⊥) (λ e. refusal_of e ≡ too_deep_at span) }
     ensures value { ((span : SpecSpan) → IsTooDeep options input.now span → ⊥)
-        → ReadIn options.language options.borrows T.shape.reading_borrowed T.shape.reading T.whole T.view input.now result }
+        → ReadIn (language_of options.language) options.borrows T.shape.reading_borrowed T.shape.reading T.whole T.view input.now result }
     ensures owned { options.borrows ≡ false → IfOk result T.owned }
     ensures within { IfErr result (λ e. RefusalWithin input.now (refusal_of e)) }
 {
@@ -204,7 +181,7 @@ pub fn from_str_with_options<'t, 'de, T: Facet<'de>>(
     ensures deeper { (span : SpecSpan) → IsTooDeep options input.now span
         → MatchResult result (λ _. ⊥) (λ e. refusal_of e ≡ too_deep_at span) }
     ensures value { ((span : SpecSpan) → IsTooDeep options input.now span → ⊥)
-        → ReadIn options.language options.borrows T.shape.reading_borrowed T.shape.reading T.whole T.view input.now result }
+        → ReadIn (language_of options.language) options.borrows T.shape.reading_borrowed T.shape.reading T.whole T.view input.now result }
     ensures owned { options.borrows ≡ false → IfOk result T.owned }
     ensures within { IfErr result (λ e. RefusalWithin input.now (refusal_of e)) }
 {

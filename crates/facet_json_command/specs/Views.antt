@@ -3,7 +3,7 @@ use Rattle.std.specs.Prelude.{ℕ, Result, Ok, Err}
 use Rattle.facet_format.specs.declared.parse_error.ParseError.{ParseError}
 use Rattle.facet_format.specs.Complaint.{Refusal}
 use Rattle.facet_format.specs.Views.{parse_refusal}
-pub use Rattle.facet_json_command.specs.OutcomeViews.{words_of, read_as, command_view, operands_of}
+pub use Rattle.facet_json_command.specs.OutcomeViews.{words_of, command_view, operands_of}
 
 -- how many events were given out, or the refusal after them
 abbrev pub count_of : Result ℕ ParseError → Result ℕ Refusal

@@ -4,9 +4,10 @@ ghost use Rattle.std.specs.Prelude.{◌≡◌, ◌≢◌, ◌≤◌, ◌⊎◌, 
 ghost use Rattle.std.specs.Prelude.{MatchOption, MatchResult};
 ghost use Rattle.facet_json_token.specs.Gap.{plain};
 ghost use Rattle.facet_json_grammar.specs.Language.{Language as SpecLanguage, lenient};
+ghost use Rattle.facet_json_reader.specs.PlaceViews.{language_of};
 ghost use Rattle.facet_json_command.specs.declared.outcome.Outcome.TheVariants as outcome;
 ghost use Rattle.facet_json_command.specs.Arguments.{AreWords, AskFor, AskForNothing};
-ghost use Rattle.facet_json_command.specs.OutcomeViews.{words_of, read_as, command_view, operands_of};
+ghost use Rattle.facet_json_command.specs.OutcomeViews.{words_of, command_view, operands_of};
 
 use crate::outcome::Outcome;
 use crate::script::parse_script;
@@ -65,17 +66,17 @@ impl<'a> Words<'a> {
     /// These words, and then one more, where it may stand there: each option once, and one other word.
     fn with(self, word: &'a str) -> Option<Words<'a>>
         ensures { (before : List (List ℕ))
-            → AreWords (read_as self.entry.language) self.entry.pretty (operands_of self.entry.operand) before
+            → AreWords (language_of self.entry.language) self.entry.pretty (operands_of self.entry.operand) before
             → MatchOption result
             ((language : SpecLanguage) (pretty : Bool) (operands rest : List (List ℕ)) → length operands ≤ 1
             → ¬ AreWords language pretty operands (before ++ (word.now ∷ rest)))
-            (λ w. AreWords (read_as w.language) w.pretty (operands_of w.operand) (before ++ (word.now ∷ []))) }
+            (λ w. AreWords (language_of w.language) w.pretty (operands_of w.operand) (before ++ (word.now ∷ []))) }
     {
         if word == COMMENTS {
-            return self.with_language(Language::Lenient(Mode::Jsonc));
+            return self.with_language(Language::Jsonc);
         }
         if word == STRICTLY {
-            return self.with_language(Language::Strict(Mode::Plain));
+            return self.with_language(Language::Strict);
         }
         if word == INDENTED {
             return self.with_indent();
@@ -85,11 +86,11 @@ impl<'a> Words<'a> {
 
     /// With an option that asks for this language: one such option stands there at most.
     fn with_language(self, language: Language) -> Option<Words<'a>>
-        ensures { MatchOption result (read_as self.entry.language ≢ lenient plain)
-            (λ w. (read_as self.entry.language ≡ lenient plain) × (w ≡ record self.entry { language = language })) }
+        ensures { MatchOption result (language_of self.entry.language ≢ lenient plain)
+            (λ w. (language_of self.entry.language ≡ lenient plain) × (w ≡ record self.entry { language = language })) }
     {
         match self.language {
-            Language::Lenient(Mode::Plain) => Some(Words { language, ..self }),
+            Language::Plain => Some(Words { language, ..self }),
             _ => None,
         }
     }
@@ -141,7 +142,7 @@ pub fn command_of(alloc: Global, args: &[String]) -> Result<Command, Outcome>
 
 /// The command of this name with these words.
 fn named(alloc: Global, name: &str, words: Words<'_>) -> Result<Command, Outcome>
-    ensures { (rest : List (List ℕ)) → AreWords (read_as words.entry.language) words.entry.pretty (operands_of words.entry.operand) rest
+    ensures { (rest : List (List ℕ)) → AreWords (language_of words.entry.language) words.entry.pretty (operands_of words.entry.operand) rest
         → MatchResult result
         (λ c. AskFor (command_view c) (name.now ∷ rest))
         (λ o. (o ≡ outcome.Refused 9 None) ⊎ ((o ≡ outcome.Usage) × AskForNothing (name.now ∷ rest))) }
@@ -160,7 +161,7 @@ fn named(alloc: Global, name: &str, words: Words<'_>) -> Result<Command, Outcome
 
 /// The command of this name with a script.
 fn scripted(alloc: Global, name: &str, language: Language, script: &str) -> Result<Command, Outcome>
-    ensures { (rest : List (List ℕ)) → AreWords (read_as language) false (script.now ∷ []) rest → MatchResult result
+    ensures { (rest : List (List ℕ)) → AreWords (language_of language) false (script.now ∷ []) rest → MatchResult result
         (λ c. AskFor (command_view c) (name.now ∷ rest))
         (λ o. (o ≡ outcome.Refused 9 None) ⊎ ((o ≡ outcome.Usage) × AskForNothing (name.now ∷ rest))) }
 {
@@ -175,7 +176,7 @@ fn scripted(alloc: Global, name: &str, language: Language, script: &str) -> Resu
 
 /// The command of this name, without an operand.
 fn bare(name: &str, language: Language, pretty: bool) -> Result<Command, Outcome>
-    ensures { (rest : List (List ℕ)) → AreWords (read_as language) pretty [] rest → MatchResult result
+    ensures { (rest : List (List ℕ)) → AreWords (language_of language) pretty [] rest → MatchResult result
         (λ c. AskFor (command_view c) (name.now ∷ rest))
         (λ o. (o ≡ outcome.Usage) × AskForNothing (name.now ∷ rest)) }
 {
@@ -192,7 +193,7 @@ fn bare(name: &str, language: Language, pretty: bool) -> Result<Command, Outcome
 
 /// The command of this name that lists something, without an operand and the option of the layout.
 fn listing(name: &str, language: Language) -> Result<Command, Outcome>
-    ensures { (rest : List (List ℕ)) → name.now ≢ codes "fmt" → AreWords (read_as language) false [] rest → MatchResult result
+    ensures { (rest : List (List ℕ)) → name.now ≢ codes "fmt" → AreWords (language_of language) false [] rest → MatchResult result
         (λ c. AskFor (command_view c) (name.now ∷ rest))
         (λ o. (o ≡ outcome.Usage) × AskForNothing (name.now ∷ rest)) }
 {
@@ -205,13 +206,14 @@ fn listing(name: &str, language: Language) -> Result<Command, Outcome>
 
 /// The command `tokens`, which has no strict form.
 fn scanning(language: Language) -> Result<Command, Outcome>
-    ensures { (rest : List (List ℕ)) → AreWords (read_as language) false [] rest → MatchResult result
+    ensures { (rest : List (List ℕ)) → AreWords (language_of language) false [] rest → MatchResult result
         (λ c. AskFor (command_view c) (codes "tokens" ∷ rest))
         (λ o. (o ≡ outcome.Usage) × AskForNothing (codes "tokens" ∷ rest)) }
 {
     match language {
-        Language::Lenient(mode) => Ok(Command::Tokens { mode }),
-        Language::Strict(_) => Err(Outcome::Usage),
+        Language::Plain => Ok(Command::Tokens { mode: Mode::Plain }),
+        Language::Jsonc => Ok(Command::Tokens { mode: Mode::Jsonc }),
+        Language::Strict => Err(Outcome::Usage),
     }
 }
 
@@ -220,10 +222,10 @@ fn words_after(words: &[String]) -> Option<Words<'_>>
     ensures { MatchOption result
         ((language : SpecLanguage) (pretty : Bool) (operands : List (List ℕ)) → length operands ≤ 1
         → ¬ AreWords language pretty operands (words_of words.now))
-        (λ w. AreWords (read_as w.language) w.pretty (operands_of w.operand) (words_of words.now)) }
+        (λ w. AreWords (language_of w.language) w.pretty (operands_of w.operand) (words_of words.now)) }
 {
     let mut taken = Words {
-        language: Language::Lenient(Mode::Plain),
+        language: Language::Plain,
         pretty: false,
         operand: None,
     };

@@ -15,13 +15,14 @@ ghost use Rattle.facet_json_grammar.specs.Tree.{Tree as SpecTree};
 ghost use Rattle.facet_json_reader.specs.declared.language.Language.{Language as TheLanguage};
 ghost use Rattle.facet_json_grammar.specs.Now.{Now, fresh, fresh_in};
 ghost use Rattle.facet_json_grammar.specs.Move.{MovesAll};
+ghost use Rattle.facet_json_reader.specs.PlaceViews.{language_of};
 ghost use Rattle.facet_json_core.specs.ScriptViews.{call_of, answer_of};
 ghost use Rattle.facet_json_serializer.specs.Serializer.{Writing as SpecWriting};
 ghost use Rattle.facet_json_serializer.specs.TreeCalls.{with_tree};
 ghost use Rattle.facet_json_core.specs.TranscodeViews.{IsTranscodeRefused, TranscodeLacksMemory, ErrorWithin as RefusesWithin};
 ghost use Rattle.facet_json_command.specs.declared.outcome.Outcome.TheVariants as outcome;
 ghost use Rattle.facet_json_command.specs.Arguments.{Command as SpecCommand, AskFor, AskForNothing, fmt, drive as drives};
-ghost use Rattle.facet_json_command.specs.OutcomeViews.{words_of, read_as, command_view};
+ghost use Rattle.facet_json_command.specs.OutcomeViews.{words_of, command_view};
 ghost use Rattle.facet_json_command.specs.Lines.{answer_lines};
 ghost use Rattle.facet_json_command.specs.Run.{IsDocumentIn, HasDocumentIn, layout, IsReformatted, IsRefusal, OutcomeWithin, Formats};
 ghost use Rattle.facet_json_command.specs.Run.{OnlyGrows, Prints, Lists, ListsTokens, Drives, AnswersInput, ForFmt, ForDrive};
@@ -38,7 +39,7 @@ use facet_json_core::{Answer, Call, TranscodeError, drive, pass_end, transcode};
 use facet_json_parser::JsonParser;
 use facet_json_reader::Language;
 use facet_json_serializer::{JsonSerializer, SerializeOptions};
-use facet_json_token::Mode;
+use facet_json_token::{Mode, Trust};
 use std::alloc::{AllocError, Global};
 use std::io::{Read, Write};
 use std::vec::IntoIter;
@@ -113,8 +114,8 @@ fn format<R: Read, W: Write>(
     ensures refused { (code : ℕ) (span : Option TheSpan) → result ≡ outcome.Refused code span
         → writer.new ≡ writer.old }
     ensures answer { IfSome (R.remaining reader.old) (λ input. IfSome (W.contents writer.old)
-        (λ before. Formats (read_as language) pretty input before (W.contents writer.new) result)) }
-    ensures only { IfSome (R.remaining reader.old) (λ input. HasDocumentIn (read_as language) input
+        (λ before. Formats (language_of language) pretty input before (W.contents writer.new) result)) }
+    ensures only { IfSome (R.remaining reader.old) (λ input. HasDocumentIn (language_of language) input
         → (result ≡ outcome.Done) ⊎ IsFailure result) }
     ensures grows { result ≢ outcome.Io → OnlyGrows (W.contents writer.old) (W.contents writer.new) }
     ensures within { IfSome (R.remaining reader.old) (λ input. OutcomeWithin (length input) result) }
@@ -134,10 +135,10 @@ fn formatted<R: Read>(
     reader: &mut R,
 ) -> Result<Vec<u8>, Outcome>
     ensures ends { IfErr result (λ o. o ≢ outcome.Usage) }
-    ensures text { IfSome (R.remaining reader.old) (λ input. IfOk result (λ v. IsReformatted (read_as language) pretty input v.items)) }
+    ensures text { IfSome (R.remaining reader.old) (λ input. IfOk result (λ v. IsReformatted (language_of language) pretty input v.items)) }
     ensures refused { IfSome (R.remaining reader.old)
-        (λ input. IfErr result (λ o. (o ≡ outcome.Io) ⊎ IsRefusal (read_as language) input o)) }
-    ensures only { IfSome (R.remaining reader.old) (λ input. HasDocumentIn (read_as language) input → IfErr result IsFailure) }
+        (λ input. IfErr result (λ o. (o ≡ outcome.Io) ⊎ IsRefusal (language_of language) input o)) }
+    ensures only { IfSome (R.remaining reader.old) (λ input. HasDocumentIn (language_of language) input → IfErr result IsFailure) }
     ensures within { IfSome (R.remaining reader.old) (λ input. IfErr result (OutcomeWithin (length input))) }
     ensures marks { Marks session.old.failed session.new.failed (outcome_of result) }
 {
@@ -165,12 +166,12 @@ fn reformatted(
     pretty: bool,
     input: &[u8],
 ) -> Result<Vec<u8>, Outcome>
-    ensures text { IfOk result (λ v. IsReformatted (read_as language) pretty input.now v.items) }
-    ensures refused { IfErr result (λ o. IsRefusal (read_as language) input.now o) }
-    ensures only { HasDocumentIn (read_as language) input.now → IfErr result IsFailure }
+    ensures text { IfOk result (λ v. IsReformatted (language_of language) pretty input.now v.items) }
+    ensures refused { IfErr result (λ o. IsRefusal (language_of language) input.now o) }
+    ensures only { HasDocumentIn (language_of language) input.now → IfErr result IsFailure }
     ensures within { IfErr result (OutcomeWithin (length input.now)) }
 {
-    let mut parser = parser_of(alloc, language, input);
+    let mut parser = JsonParser::in_language(alloc, input, language, Trust::Nothing);
     let mut serializer = serializer_of(alloc, pretty);
     match pass_document(&mut parser, &mut serializer) {
         Ok(()) => text_of(serializer),
@@ -183,13 +184,13 @@ fn pass_document<'t>(
     parser: &mut JsonParser<'_>,
     serializer: &mut JsonSerializer<'_>,
 ) -> Result<(), TranscodeError<'t>>
-    ensures document { (input : List ℕ) (language : TheLanguage) (w : SpecWriting) → parser.old ≡ fresh_in input (read_as language)
+    ensures document { (input : List ℕ) (language : TheLanguage) (w : SpecWriting) → parser.old ≡ fresh_in input (language_of language)
         → serializer.old ≡ Some w → OnOk result ((root : Node) × (value : SpecTree)
-        × IsDocumentIn (read_as language) input root value × (serializer.new ≡ Some (with_tree w value))) }
+        × IsDocumentIn (language_of language) input root value × (serializer.new ≡ Some (with_tree w value))) }
     ensures refused { (input : List ℕ) (mode : SpecMode) (w : SpecWriting) → parser.old ≡ fresh input mode → serializer.old ≡ Some w
         → IfErr result (λ e. IsTranscodeRefused input mode e) }
-    ensures only { (input : List ℕ) (language : TheLanguage) (w : SpecWriting) → parser.old ≡ fresh_in input (read_as language)
-        → serializer.old ≡ Some w → HasDocumentIn (read_as language) input → IfErr result (λ e. TranscodeLacksMemory e) }
+    ensures only { (input : List ℕ) (language : TheLanguage) (w : SpecWriting) → parser.old ≡ fresh_in input (language_of language)
+        → serializer.old ≡ Some w → HasDocumentIn (language_of language) input → IfErr result (λ e. TranscodeLacksMemory e) }
     ensures within { IfErr result (λ e. RefusesWithin (length parser.old.buffer) e) }
 {
     transcode(parser, serializer)?;
@@ -255,7 +256,7 @@ fn print_events<R: Read, W: Write>(
 ) -> Outcome
     ensures ends { result ≢ outcome.Usage }
     ensures listed { IfSome (R.remaining reader.old) (λ input.
-        Lists (read_as language) input (W.contents writer.old) (W.contents writer.new) result) }
+        Lists (language_of language) input (W.contents writer.old) (W.contents writer.new) result) }
     ensures grows { result ≢ outcome.Io → OnlyGrows (W.contents writer.old) (W.contents writer.new) }
     ensures within { IfSome (R.remaining reader.old) (λ input. OutcomeWithin (length input) result) }
     ensures marks { Marks session.old.failed session.new.failed result }
@@ -276,11 +277,11 @@ fn list_events<W: Write>(
     input: &[u8],
     writer: &mut W,
 ) -> Result<(), Outcome>
-    ensures listed { Lists (read_as language) input.now (W.contents writer.old) (W.contents writer.new) (outcome_of result) }
+    ensures listed { Lists (language_of language) input.now (W.contents writer.old) (W.contents writer.new) (outcome_of result) }
     ensures within { IfErr result (OutcomeWithin (length input.now)) }
     ensures marks { Marks session.old.failed session.new.failed (outcome_of result) }
 {
-    let mut parser = parser_of(session.alloc, language, input);
+    let mut parser = JsonParser::in_language(session.alloc, input, language, Trust::Nothing);
     list_ahead(session, &mut parser, writer)
 }
 
@@ -338,7 +339,7 @@ fn print_answers<R: Read, W: Write>(
 ) -> Outcome
     ensures ends { (result ≡ outcome.Done) ⊎ IsFaultOfRun result }
     ensures answers { IfSome (R.remaining reader.old) (λ input. IfSome (W.contents writer.old) (λ before.
-        Drives (read_as language) (map call_of calls.now) input before (W.contents writer.new) result)) }
+        Drives (language_of language) (map call_of calls.now) input before (W.contents writer.new) result)) }
     ensures grows { result ≢ outcome.Io → OnlyGrows (W.contents writer.old) (W.contents writer.new) }
     ensures within { IfSome (R.remaining reader.old) (λ input. OutcomeWithin (length input) result) }
     ensures marks { Marks session.old.failed session.new.failed result }
@@ -363,9 +364,9 @@ fn answers_of<'de>(
     calls: &[Call],
 ) -> Result<Vec<Answer<'de>>, AllocError>
     ensures { IfOk result (λ answers. (parser : Now)
-        × MovesAll (fresh_in input.now (read_as language)) (map call_of calls.now) (map answer_of answers.items) parser) }
+        × MovesAll (fresh_in input.now (language_of language)) (map call_of calls.now) (map answer_of answers.items) parser) }
 {
-    let mut parser = parser_of(alloc, language, input);
+    let mut parser = JsonParser::in_language(alloc, input, language, Trust::Nothing);
     drive(alloc, &mut parser, calls)
 }
 
@@ -396,17 +397,6 @@ fn write_ahead<W: Write>(
         write_answer(session, answer, writer)?;
     }
     Ok(())
-}
-
-/// A parser of the input, before it.
-fn parser_of<'de>(alloc: Global, language: Language, input: &'de [u8]) -> JsonParser<'de>
-    ensures { result ≡ fresh_in input.now (read_as language) }
-{
-    match language {
-        Language::Lenient(Mode::Plain) => JsonParser::new(alloc, input),
-        Language::Lenient(Mode::Jsonc) => JsonParser::new_jsonc(alloc, input),
-        Language::Strict(_) => JsonParser::new_strict(alloc, input),
-    }
 }
 
 /// Sends what is written on its way, where no write failed: also the lines before a refusal.

@@ -18,4 +18,4 @@ pub use meaning::{
     document_comes_back, document_is_readable, document_nodes_are_spelled, same_bytes_same_text,
     strict_reads_texts,
 };
-pub use trust::{trusted_agrees, trusted_agrees_jsonc, trusted_agrees_strict};
+pub use trust::trusted_agrees;

@@ -174,7 +174,8 @@ fn pass_behind<'t>(
         contexts: Contexts::new(alloc),
         stage: Stage::Within(Place::AfterRoot),
     };
-    match behind.upcoming(alloc, text, Language::Lenient(mode)) {
+    let language = Language::from(mode);
+    match behind.upcoming(alloc, text, language) {
         Ok(_) => Ok(()),
         Err(refused) => Err(DeserializeError::from(ParseError::from(refused))),
     }

@@ -7,7 +7,7 @@ ghost use Rattle.facet_json.specs.ScriptViews.{call_of, answer_of};
 ghost use Rattle.facet_json_examples.specs.Driving.{AreAnswers};
 
 use facet_json::laws::{headline, trusted_agrees};
-use facet_json::{Answer, Call, JsonParser, drive};
+use facet_json::{Answer, Call, JsonParser, Language, drive};
 use std::alloc::{AllocError, Global};
 
 /// What a new parser of the input answers to these calls, one after another. Where the input has a document, the answers are a run of a
@@ -34,7 +34,7 @@ pub fn answers_of_both<'de>(
 ) -> Result<(Vec<Answer<'de>>, Vec<Answer<'de>>), AllocError>
     ensures { IfOk result (λ both. AgreeToLack (map answer_of both.0.items) (map answer_of both.1.items)) }
 {
-    let mut parsers = trusted_agrees(alloc, text);
+    let mut parsers = trusted_agrees(alloc, text, Language::Plain);
     let of_trusted = drive(alloc, &mut parsers.0, calls)?;
     let of_checking = drive(alloc, &mut parsers.1, calls)?;
     Ok((of_trusted, of_checking))

@@ -2,13 +2,15 @@
 
 ghost use Rattle.std.specs.Prelude.{OnOk, IfErr};
 ghost use Rattle.facet_json.specs.FormatViews.{refusal_of};
+ghost use Rattle.facet_json.specs.LanguageViews.{language_of};
 ghost use Rattle.facet_json.specs.Reading.{LacksMemory};
 ghost use Rattle.facet_json_lint.specs.Checked.{IsWholeSource};
 
 use facet_json::scanner::Mode;
 use facet_json::{
     DeserializeError, DeserializeErrorKind, FormatOptions, FormatParser, JsonParser, Language,
-    ParseEvent, ParseEventKind, Span, check_strict, check_whole, format_text, format_text_strict,
+    ParseEvent, ParseEventKind, Span, Trust, check_strict, check_whole, format_text,
+    format_text_strict,
 };
 use std::alloc::{AllocError, Global};
 
@@ -62,8 +64,8 @@ impl Fault {
 ///
 /// As `check_whole`, and where RFC 8259 alone is read as `check_strict`.
 pub fn check(alloc: Global, language: Language, source: &[u8]) -> Result<(), Fault>
-    ensures document { OnOk result (IsWholeSource language source.now) }
-    ensures only { IsWholeSource language source.now → IfErr result (λ fault. LacksMemory (refusal_of fault.error)) }
+    ensures document { OnOk result (IsWholeSource (language_of language) source.now) }
+    ensures only { IsWholeSource (language_of language) source.now → IfErr result (λ fault. LacksMemory (refusal_of fault.error)) }
 {
     match checked(alloc, language, source) {
         Ok(()) => Ok(()),
@@ -80,8 +82,8 @@ fn checked(
     language: Language,
     source: &[u8],
 ) -> Result<(), DeserializeError<'static>>
-    ensures document { OnOk result (IsWholeSource language source.now) }
-    ensures only { IsWholeSource language source.now → IfErr result (λ error. LacksMemory (refusal_of error)) }
+    ensures document { OnOk result (IsWholeSource (language_of language) source.now) }
+    ensures only { IsWholeSource (language_of language) source.now → IfErr result (λ error. LacksMemory (refusal_of error)) }
 {
     match language {
         Language::Plain => check_whole(alloc, source, Mode::Plain),
@@ -100,8 +102,8 @@ pub fn formatted(
     language: Language,
     source: &[u8],
 ) -> Result<Vec<u8>, DeserializeError<'static>>
-    ensures document { OnOk result (IsWholeSource language source.now) }
-    ensures only { IsWholeSource language source.now → IfErr result (λ error. LacksMemory (refusal_of error)) }
+    ensures document { OnOk result (IsWholeSource (language_of language) source.now) }
+    ensures only { IsWholeSource (language_of language) source.now → IfErr result (λ error. LacksMemory (refusal_of error)) }
 {
     let options = FormatOptions::new();
     match language {
@@ -111,19 +113,11 @@ pub fn formatted(
     }
 }
 
-/// A parser of the source, before it.
-pub fn parser_of<'de>(alloc: Global, language: Language, source: &'de [u8]) -> JsonParser<'de> {
-    match language {
-        Language::Plain => JsonParser::new(alloc, source),
-        Language::Jsonc => JsonParser::new_jsonc(alloc, source),
-        Language::Strict => JsonParser::new_strict(alloc, source),
-    }
-}
-
 /// The innermost bracket that is open where the source's events end, as far as there is memory to tell.
 fn opened(alloc: Global, language: Language, source: &[u8]) -> Option<Span> {
     let mut open = Vec::new(alloc);
-    match pass_events(&mut parser_of(alloc, language, source), &mut open) {
+    let mut parser = JsonParser::in_language(alloc, source, language, Trust::Nothing);
+    match pass_events(&mut parser, &mut open) {
         Ok(()) => open.last().copied(),
         Err(_) => None,
     }

@@ -2,13 +2,13 @@
 
 use crate::advice::{Place, advice};
 use crate::arguments::{Layout, Options};
-use crate::check::{Fault, check, formatted, parser_of};
+use crate::check::{Fault, check, formatted};
 use crate::files;
 use crate::repeats::{Repeat, key_text, repeats};
 use crate::report::{Aside, Colours, Report, write_report};
 use crate::shown::shown;
 use crate::tally::{Tally, Verdict};
-use facet_json::{DeserializeError, DeserializeErrorKind, JsonErrorKind, Span};
+use facet_json::{DeserializeError, DeserializeErrorKind, JsonErrorKind, JsonParser, Span, Trust};
 use std::alloc::AllocError;
 use std::io;
 use std::io::{ErrorKind, Write};
@@ -144,7 +144,8 @@ impl Lint<'_> {
             return Ok(Verdict::Fine);
         }
         let alloc = self.rt.alloc();
-        let mut parser = parser_of(alloc, self.options.language, source.text);
+        let language = self.options.language;
+        let mut parser = JsonParser::in_language(alloc, source.text, language, Trust::Nothing);
         match repeats(alloc, &mut parser) {
             Ok(found) => self.tell_repeats(source, found.as_slice(), output),
             Err(error) => self.tell_error(source, error, output),

@@ -27,7 +27,7 @@ use crate::lookahead::Lookahead;
 use crate::points::{Point, bring_back, drop_point, keep};
 use facet_format::{FormatParser, ParseError, ParseEvent, ParseEventKind, SavePoint, Span};
 use facet_json_reader::{Language, Refused, Sought, Wanted};
-use facet_json_token::{Mode, Trust};
+use facet_json_token::Trust;
 use std::alloc::Global;
 use std::collections::VecDeque;
 use std::fmt;
@@ -115,7 +115,7 @@ impl<'de> JsonParser<'de> {
     pub fn new(alloc: Global, input: &'de [u8]) -> JsonParser<'de>
         ensures { result ≡ fresh input.now plain }
     {
-        JsonParser::in_language(alloc, input, Language::Lenient(Mode::Plain), Trust::Nothing)
+        JsonParser::in_language(alloc, input, Language::Plain, Trust::Nothing)
     }
 
     /// A parser of a document in which comments may stand wherever white space may: `//` to the line's end, and `/*` to
@@ -123,7 +123,7 @@ impl<'de> JsonParser<'de> {
     pub fn new_jsonc(alloc: Global, input: &'de [u8]) -> JsonParser<'de>
         ensures { result ≡ fresh input.now jsonc }
     {
-        JsonParser::in_language(alloc, input, Language::Lenient(Mode::Jsonc), Trust::Nothing)
+        JsonParser::in_language(alloc, input, Language::Jsonc, Trust::Nothing)
     }
 
     /// The parser that `new` makes, for a caller that knows the input to be UTF-8, as the bytes of a `str` are. It
@@ -132,7 +132,7 @@ impl<'de> JsonParser<'de> {
         requires utf8 { IsUtf8 input.now }
         ensures { result ≡ fresh input.now plain }
     {
-        JsonParser::in_language(alloc, input, Language::Lenient(Mode::Plain), Trust::Utf8)
+        JsonParser::in_language(alloc, input, Language::Plain, Trust::Utf8)
     }
 
     /// The parser that `new_jsonc` makes, for a caller that knows the input to be UTF-8, as the bytes of a `str` are. It
@@ -141,7 +141,7 @@ impl<'de> JsonParser<'de> {
         requires utf8 { IsUtf8 input.now }
         ensures { result ≡ fresh input.now jsonc }
     {
-        JsonParser::in_language(alloc, input, Language::Lenient(Mode::Jsonc), Trust::Utf8)
+        JsonParser::in_language(alloc, input, Language::Jsonc, Trust::Utf8)
     }
 
     /// A parser of a text that is one of RFC 8259 alone: no comma trails, strings and numbers are as the RFC has them, and nothing but
@@ -149,7 +149,7 @@ impl<'de> JsonParser<'de> {
     pub fn new_strict(alloc: Global, input: &'de [u8]) -> JsonParser<'de>
         ensures { result ≡ fresh_in input.now (strict plain) }
     {
-        JsonParser::in_language(alloc, input, Language::Strict(Mode::Plain), Trust::Nothing)
+        JsonParser::in_language(alloc, input, Language::Strict, Trust::Nothing)
     }
 
     /// The parser that `new_strict` makes, for a caller that knows the input to be UTF-8, as the bytes of a `str` are. It
@@ -158,25 +158,22 @@ impl<'de> JsonParser<'de> {
         requires utf8 { IsUtf8 input.now }
         ensures { result ≡ fresh_in input.now (strict plain) }
     {
-        JsonParser::in_language(alloc, input, Language::Strict(Mode::Plain), Trust::Utf8)
+        JsonParser::in_language(alloc, input, Language::Strict, Trust::Utf8)
     }
 
-    /// Drops a point that is kept, as `restore` does, and stays where it stands, refused or not. A point that is not kept changes nothing.
-    /// It does not allocate.
-    pub fn forget(&mut self, point: SavePoint)
-        ensures { self.new ≡ without_point point.0 self.old }
-    {
-        drop_point(&mut self.points, point.0);
-    }
-
-    /// A parser before the input.
-    fn in_language(
+    /// A parser in this language, before the input. The other constructors are this one with its language and trust: strings of an input
+    /// that is trusted are not checked, and the parser answers as the one that checks them. It does not allocate.
+    ///
+    /// ```text
+    /// JsonParser::in_language(alloc, b"[1,]", Language::Plain, Trust::Nothing)    as JsonParser::new(alloc, b"[1,]")
+    /// ```
+    pub fn in_language(
         alloc: Global,
         input: &'de [u8],
         language: Language,
         trust: Trust,
     ) -> JsonParser<'de>
-        requires { trust ≡ Trust.Utf8 → IsUtf8 input.now }
+        requires utf8 { trust ≡ Trust.Utf8 → IsUtf8 input.now }
         ensures { result ≡ fresh_in input.now (language_of language) }
     {
         JsonParser {
@@ -189,6 +186,14 @@ impl<'de> JsonParser<'de> {
             points: Vec::new(alloc),
             counter: 0,
         }
+    }
+
+    /// Drops a point that is kept, as `restore` does, and stays where it stands, refused or not. A point that is not kept changes nothing.
+    /// It does not allocate.
+    pub fn forget(&mut self, point: SavePoint)
+        ensures { self.new ≡ without_point point.0 self.old }
+    {
+        drop_point(&mut self.points, point.0);
     }
 
     /// Repeats a refusal, where there is one.

@@ -53,7 +53,7 @@ pub fn find(reader: &Reader, input: &[u8], language: Language) -> Result<Part, R
             Turn::Stops => return Err(stopped(place, &token)),
             Turn::Passes(next) => {
                 position = token.span.end();
-                place = language.led(next);
+                place = next.led(language);
             }
             Turn::Opens(_) => return Ok(Part::Value(token)),
             Turn::Closes(_) => return Ok(Part::Closing(token.span)),

@@ -1,4 +1,5 @@
 pub mod Inner
+pub mod LanguageViews
 pub mod Packed
 pub mod PlaceViews
 pub mod TokenViews

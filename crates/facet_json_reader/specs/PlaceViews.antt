@@ -13,8 +13,7 @@ use Rattle.facet_json_reader.specs.declared.refusal.NoRaw.TheVariants as no_raws
 use Rattle.facet_json_reader.specs.declared.refusal.Why.{Why}
 use Rattle.facet_json_reader.specs.declared.refusal.Why.TheVariants as why
 use Rattle.facet_json_reader.specs.declared.refusal.Refused.{Refused}
-use Rattle.facet_json_reader.specs.declared.language.Language.{Language as RustLanguage}
-use Rattle.facet_json_reader.specs.declared.language.Language.TheVariants as languages
+pub use Rattle.facet_json_reader.specs.LanguageViews.{language_of, least_of}
 use Rattle.facet_json_reader.specs.declared.place.Place.{Place as RustPlace}
 use Rattle.facet_json_reader.specs.declared.place.Place.TheVariants as places
 use Rattle.facet_json_reader.specs.declared.place.Turn.{Turn as RustTurn}
@@ -31,8 +30,7 @@ use Rattle.facet_json_token.specs.Cut.{fault}
 use Rattle.facet_json_token.specs.Strict.{strict_fault}
 use Rattle.facet_json_token.specs.Token.{Token, Fault, Kind}
 use Rattle.facet_json_token.specs.Token as token
-use Rattle.facet_json_token.specs.Views.{mode_of, inside_text, told_cut}
-use Rattle.facet_json_grammar.specs.Language.{Language, lenient, strict}
+use Rattle.facet_json_token.specs.Views.{inside_text, told_cut}
 use Rattle.facet_json_grammar.specs.Place.{Place, Turn, stops, passes, says, says_scalar, place_turn}
 use Rattle.facet_json_grammar.specs.Place as place
 
@@ -91,17 +89,6 @@ why_of why.SaveLimit = complaint.save_limit
 
 abbrev pub refused_of : Refused → Refusal
 refused_of r = complaint.refusal_at (why_of r.why) (span_of r.span)
-
--- ---- the language
-
-abbrev pub language_of : RustLanguage → Language
-language_of (languages.Lenient mode) = lenient (mode_of mode)
-language_of (languages.Strict mode) = strict (mode_of mode)
-
--- the least byte that may stand in a text unescaped
-abbrev pub least_of : Language → ℕ
-least_of (lenient mode) = 0
-least_of (strict mode) = 0x20
 
 -- ---- places
 

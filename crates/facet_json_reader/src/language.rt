@@ -3,25 +3,26 @@
 ghost use Rattle.std.specs.Prelude.{◌≡◌, ◌≤◌, Some, length, IfOk, IfErr, IfSome, IsSome};
 ghost use Rattle.facet_format.specs.Span.{span_at};
 ghost use Rattle.facet_format.specs.Views.{span_of};
+ghost use Rattle.facet_json_token.specs.Gap.{plain};
 ghost use Rattle.facet_json_token.specs.Token.{number, string};
 ghost use Rattle.facet_json_token.specs.Views.{mode_of, kind_of, cut_of};
-ghost use Rattle.facet_json_grammar.specs.Language.{strict, gaps, rules};
-ghost use Rattle.facet_json_grammar.specs.Place.{led};
+ghost use Rattle.facet_json_grammar.specs.Language.{lenient, strict, gaps};
 ghost use Rattle.facet_json_grammar.specs.StrictTokens.{cut_in};
-ghost use Rattle.facet_json_reader.specs.PlaceViews.{language_of, least_of, place_of, HasSlices, IsJudged};
+ghost use Rattle.facet_json_reader.specs.PlaceViews.{language_of, HasSlices, IsJudged};
 
-use crate::place::Place;
 use facet_json_token::{
     CutResult, Fault, Mode, SpannedToken, Token, check_number_strict, check_string_strict, cut,
 };
 
-/// What a parser takes as a document. What may stand between its tokens is the scanner's mode.
-#[derive(Clone, Copy)]
+/// Which texts are documents.
+#[derive(Debug, Clone, Copy, PartialEq, Eq)]
 pub enum Language {
-    /// The lenient readings of RFC 8259, with these gaps between tokens.
-    Lenient(Mode),
-    /// RFC 8259 alone, but for these gaps between tokens.
-    Strict(Mode),
+    /// RFC 8259 with lenient readings, such as a trailing comma.
+    Plain,
+    /// The same, and comments may stand wherever white space may.
+    Jsonc,
+    /// RFC 8259 alone, from the input's start to its end.
+    Strict,
 }
 
 impl Language {
@@ -31,59 +32,46 @@ impl Language {
         ensures { mode_of result ≡ gaps (language_of self) }
     {
         match self {
-            Language::Lenient(mode) => mode,
-            Language::Strict(mode) => mode,
-        }
-    }
-
-    /// The place that a separator leads to, which leads to this one in a lenient document.
-    #[inline(always)]
-    pub fn led(self, place: Place) -> Place
-        ensures { place_of result ≡ led (rules (language_of self)) (place_of place) }
-    {
-        match self {
-            Language::Lenient(_) => place,
-            Language::Strict(_) => match place {
-                Place::BeforeKey => Place::NextKey,
-                Place::BeforeItem => Place::NextItem,
-                other => other,
-            },
-        }
-    }
-
-    /// The least byte that may stand in a text unescaped.
-    #[inline(always)]
-    pub fn least(self) -> u8
-        ensures { result ≡ least_of (language_of self) }
-    {
-        match self {
-            Language::Lenient(_) => 0,
-            Language::Strict(_) => b' ',
+            Language::Plain | Language::Strict => Mode::Plain,
+            Language::Jsonc => Mode::Jsonc,
         }
     }
 
     /// What stands at `position`: where RFC 8259 alone is read, a string or a number that it has not is refused.
     #[inline(always)]
-    pub fn cut(self, buffer: &[u8], position: usize) -> CutResult
+    pub(crate) fn cut(self, buffer: &[u8], position: usize) -> CutResult
         requires { position ≤ length buffer.now }
         ensures answer { cut_of result ≡ Some (cut_in (language_of self) buffer.now position) }
         ensures end { IfOk result (λ t. t.token ≡ Token.Eof → span_of t.span ≡ span_at (length buffer.now) 0) }
     {
         match self {
-            Language::Lenient(mode) => cut(buffer, position, mode),
-            Language::Strict(mode) => cut_strict(buffer, position, mode),
+            Language::Plain | Language::Jsonc => cut(buffer, position, self.mode()),
+            Language::Strict => cut_strict(buffer, position),
+        }
+    }
+}
+
+impl From<Mode> for Language {
+    ghost from_gives = { λ mode language. language_of language ≡ lenient (mode_of mode) };
+
+    /// The lenient language with these gaps between tokens.
+    #[inline(always)]
+    fn from(mode: Mode) -> Self {
+        match mode {
+            Mode::Plain => Language::Plain,
+            Mode::Jsonc => Language::Jsonc,
         }
     }
 }
 
 /// What stands at `position`, where strings and numbers are those of RFC 8259 alone.
 #[inline(never)]
-fn cut_strict(buffer: &[u8], position: usize, mode: Mode) -> CutResult
+fn cut_strict(buffer: &[u8], position: usize) -> CutResult
     requires { position ≤ length buffer.now }
-    ensures answer { cut_of result ≡ Some (cut_in (strict (mode_of mode)) buffer.now position) }
+    ensures answer { cut_of result ≡ Some (cut_in (strict plain) buffer.now position) }
     ensures end { IfOk result (λ t. t.token ≡ Token.Eof → span_of t.span ≡ span_at (length buffer.now) 0) }
 {
-    let token = cut(buffer, position, mode)?;
+    let token = cut(buffer, position, Mode::Plain)?;
     match judge(buffer, &token) {
         Ok(()) => Ok(token),
         Err(fault) => Err(fault),

@@ -99,8 +99,8 @@ pub(crate) fn short_whole_in(
 {
     let (len, whole) = short_whole(input, at, first)?;
     match language {
-        Language::Lenient(_) => Some((len, whole)),
-        Language::Strict(_) => {
+        Language::Plain | Language::Jsonc => Some((len, whole)),
+        Language::Strict => {
             if leads_by_no_zero(input, at, first, len) {
                 Some((len, whole))
             } else {
@@ -140,8 +140,8 @@ pub(crate) fn short_number_in(
     ensures { IfSome result (λ r. IsShortIn (language_of language) input.now at r.0 r.1) }
 {
     match language {
-        Language::Lenient(_) => short_number(input, at, first),
-        Language::Strict(_) => short_number_strict(input, at, first),
+        Language::Plain | Language::Jsonc => short_number(input, at, first),
+        Language::Strict => short_number_strict(input, at, first),
     }
 }
 

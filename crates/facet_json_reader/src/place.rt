@@ -4,10 +4,12 @@ ghost use Rattle.std.specs.Prelude.{◌≡◌, true, Some};
 ghost use Rattle.facet_json_token.specs.Token.{Kind};
 ghost use Rattle.facet_json_token.specs.Views.{kind_of};
 ghost use Rattle.facet_json_grammar.specs.Place.{root, after_colon, before_key, after_member, before_item, after_item, next_key};
-ghost use Rattle.facet_json_grammar.specs.Place.{next_item, complaint_at_end, expected_at};
+ghost use Rattle.facet_json_grammar.specs.Language.{rules};
+ghost use Rattle.facet_json_grammar.specs.Place.{next_item, complaint_at_end, expected_at, led};
 ghost use Rattle.facet_json_reader.specs.Inner.Sorts.{kind_by, sort_by};
-ghost use Rattle.facet_json_reader.specs.PlaceViews.{place_of, turn_of, turn_by, expected_text, why_of, is_string_token};
+ghost use Rattle.facet_json_reader.specs.PlaceViews.{language_of, place_of, turn_of, turn_by, expected_text, why_of, is_string_token};
 
+use crate::language::Language;
 use crate::refusal::{Expected, Why};
 use facet_format::ContainerKind;
 use facet_json_token::Token;
@@ -54,6 +56,21 @@ pub enum Turn {
 }
 
 impl Place {
+    /// The place that a separator leads to in this language, which leads to this one in a lenient document.
+    #[inline(always)]
+    pub fn led(self, language: Language) -> Place
+        ensures { place_of result ≡ led (rules (language_of language)) (place_of self) }
+    {
+        match language {
+            Language::Plain | Language::Jsonc => self,
+            Language::Strict => match self {
+                Place::BeforeKey => Place::NextKey,
+                Place::BeforeItem => Place::NextItem,
+                other => other,
+            },
+        }
+    }
+
     /// What is wrong where the input ends at this place.
     pub fn why_at_end(self) -> Why
         ensures { why_of result ≡ complaint_at_end (place_of self) }

@@ -6,9 +6,10 @@ ghost use Rattle.facet_format.specs.Span.{stop, span_at};
 ghost use Rattle.facet_format.specs.Views.{span_of, event_of, event_kind_of};
 ghost use Rattle.facet_json_grammar.specs.Language.{Language as SpecLanguage, rules, strict, strict_rules};
 ghost use Rattle.facet_json_grammar.specs.StrictTokens.{tokens_in};
+ghost use Rattle.facet_json_token.specs.Gap.{plain};
 ghost use Rattle.facet_json_token.specs.Token.{Kind};
 ghost use Rattle.facet_json_token.specs.Tokens.{Tokens, ended, next};
-ghost use Rattle.facet_json_token.specs.Views.{kind_of, mode_of};
+ghost use Rattle.facet_json_token.specs.Views.{kind_of};
 ghost use Rattle.facet_json_grammar.specs.Future.{after_value, around, behind_root, finished, stage_after, within};
 ghost use Rattle.facet_json_grammar.specs.Place.{Place as SpecPlace, expected_at, goes_on};
 ghost use Rattle.facet_json_grammar.specs.Reader.{first_reader, past};
@@ -26,7 +27,7 @@ use crate::refusal::{Expected, Name, Refused, Why};
 use facet_format::{
     ContainerKind, FieldKey, FieldLocationHint, ParseEvent, ParseEventKind, ScalarValue, Span,
 };
-use facet_json_token::{Mode, SpannedToken, Token};
+use facet_json_token::{SpannedToken, Token};
 use std::alloc::{AllocError, Global};
 use std::borrow::CowStr;
 
@@ -156,7 +157,7 @@ impl Reader {
                 Turn::Stops => return Err(stopped(input, place, &token)),
                 Turn::Passes(next) => {
                     position = token.span.end();
-                    place = language.led(next);
+                    place = next.led(language);
                 }
                 Turn::Opens(kind) => return Ok(Some(event(opening(kind), token.span, token.span))),
                 Turn::Closes(kind) => return Ok(Some(event(closing(kind), token.span, token.span))),
@@ -253,21 +254,21 @@ fn end(input: &[u8], language: Language, last: Span) -> Result<(), Refused>
         (λ r. IsRefusedBefore input.now (span_of last) behind (refused_of r)) }
 {
     match language {
-        Language::Lenient(_) => Ok(()),
-        Language::Strict(mode) => end_strict(input, mode, last),
+        Language::Plain | Language::Jsonc => Ok(()),
+        Language::Strict => end_strict(input, last),
     }
 }
 
 /// Whether the input may end behind the root, where RFC 8259 alone is read.
 #[inline(never)]
-fn end_strict(input: &[u8], mode: Mode, last: Span) -> Result<(), Refused>
+fn end_strict(input: &[u8], last: Span) -> Result<(), Refused>
     requires { stop (span_of last) ≤ length input.now }
-    ensures { let behind = behind_root strict_rules (tokens_in (strict (mode_of mode)) input.now (stop (span_of last)))
+    ensures { let behind = behind_root strict_rules (tokens_in (strict plain) input.now (stop (span_of last)))
         in MatchResult result
         (λ _. behind ≡ finished)
         (λ r. IsRefusedBefore input.now (span_of last) behind (refused_of r)) }
 {
-    let token = Language::Strict(mode).cut(input, last.end())?;
+    let token = Language::Strict.cut(input, last.end())?;
     match token.token {
         Token::Eof => Ok(()),
         _ => Err(stopped(input, Place::AfterRoot, &token)),

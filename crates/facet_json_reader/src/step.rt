@@ -79,7 +79,7 @@ impl Reader {
         let to = empty_gap_end(input, at + 1, mode);
         let first = *input.get(to)?;
         Some(Ahead {
-            place: language.led(next),
+            place: next.led(language),
             at: to,
             first,
         })

@@ -29,8 +29,8 @@ pub(crate) fn text_at<'de>(
     ensures within { IfSome result (λ r. (at < r.0) × (r.0 < length input.now)) }
 {
     match language {
-        Language::Lenient(_) => text_from(input, trust, at, 0),
-        Language::Strict(_) => strict_text_at(input, trust, at),
+        Language::Plain | Language::Jsonc => text_from(input, trust, at, 0),
+        Language::Strict => strict_text_at(input, trust, at),
     }
 }
 

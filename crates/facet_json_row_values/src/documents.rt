@@ -3,9 +3,10 @@
 use crate::contents::push_some;
 use crate::told::Told;
 use crate::typed::{tell_difference, tell_refusal};
-use crate::words::{Mode, first_word, modes};
+use crate::words::{first_word, languages};
 use facet_json::{
-    DeserializeError, Document, JsonSerializeError, JsonSerializer, PointerError, Value, to_string,
+    DeserializeError, Document, JsonSerializeError, JsonSerializer, Language, PointerError, Value,
+    to_string,
 };
 use std::alloc::Global;
 
@@ -13,19 +14,19 @@ use std::alloc::Global;
 pub fn answer_document(alloc: Global, words: &str, input: &[u8], told: &mut Told) {
     let (read, place) = first_word(words);
     let place = unquoted(place);
-    let (mode, depth) = match read.split_once(':') {
-        Some((mode, depth)) => (mode, Some(depth.parse().unwrap_or(0))),
+    let (language, depth) = match read.split_once(':') {
+        Some((language, depth)) => (language, Some(depth.parse().unwrap_or(0))),
         None => (read, None),
     };
-    let [first, ..] = modes(mode) else {
+    let [first, ..] = languages(language) else {
         return told.line("NO MODE");
     };
     let expected = told_at(alloc, parsed(alloc, *first, depth, input), place);
     told.line(expected.as_str());
-    for mode in modes(mode) {
-        let read = told_at(alloc, parsed(alloc, *mode, depth, input), place);
+    for language in languages(language) {
+        let read = told_at(alloc, parsed(alloc, *language, depth, input), place);
         if read.as_str() != expected.as_str() {
-            tell_difference(name_of(*mode), read.as_str(), told);
+            tell_difference(name_of(*language), read.as_str(), told);
         }
     }
 }
@@ -38,29 +39,29 @@ fn unquoted(word: &str) -> &str {
     }
 }
 
-/// What the mode is called.
-fn name_of(mode: Mode) -> &'static str {
-    match mode {
-        Mode::Plain => "plain",
-        Mode::Jsonc => "jsonc",
-        Mode::Strict => "strict",
+/// What the language is called.
+fn name_of(language: Language) -> &'static str {
+    match language {
+        Language::Plain => "plain",
+        Language::Jsonc => "jsonc",
+        Language::Strict => "strict",
     }
 }
 
 /// The input as a document, within a depth where there is one.
 fn parsed<'i>(
     alloc: Global,
-    mode: Mode,
+    language: Language,
     depth: Option<usize>,
     input: &'i [u8],
 ) -> Result<Document<'i>, DeserializeError<'static>> {
-    match (mode, depth) {
-        (Mode::Plain, None) => Document::parse(alloc, input),
-        (Mode::Jsonc, None) => Document::parse_jsonc(alloc, input),
-        (Mode::Strict, None) => Document::parse_strict(alloc, input),
-        (Mode::Plain, Some(depth)) => Document::parse_within(alloc, input, depth),
-        (Mode::Jsonc, Some(depth)) => Document::parse_within_jsonc(alloc, input, depth),
-        (Mode::Strict, Some(depth)) => Document::parse_within_strict(alloc, input, depth),
+    match (language, depth) {
+        (Language::Plain, None) => Document::parse(alloc, input),
+        (Language::Jsonc, None) => Document::parse_jsonc(alloc, input),
+        (Language::Strict, None) => Document::parse_strict(alloc, input),
+        (Language::Plain, Some(depth)) => Document::parse_within(alloc, input, depth),
+        (Language::Jsonc, Some(depth)) => Document::parse_within_jsonc(alloc, input, depth),
+        (Language::Strict, Some(depth)) => Document::parse_within_strict(alloc, input, depth),
     }
 }
 

@@ -3,9 +3,9 @@
 use crate::compared::Reading;
 use crate::unread::{Passed, Unread, passed_by};
 use facet_format::{ParseError, Span};
+use facet_json::Language;
 use facet_json_row_values::shown::write_error;
 use facet_json_row_values::told::Told;
-use facet_json_row_values::words::Mode;
 use std::alloc::Global;
 
 /// How often a part is repeated at most: over two blocks of sixty-four, and a little more.
@@ -33,10 +33,10 @@ fn parts_of(text: &str) -> Parts<'_> {
     }
 }
 
-/// Tells for each mode where a skip of the root ends, where the second of three parts is repeated 0 to 130 times.
-pub fn answer_blocks(alloc: Global, modes: &[Mode], text: &str, told: &mut Told) {
-    for mode in modes {
-        write_ends(alloc, *mode, parts_of(text), told);
+/// Tells for each language where a skip of the root ends, where the second of three parts is repeated 0 to 130 times.
+pub fn answer_blocks(alloc: Global, languages: &[Language], text: &str, told: &mut Told) {
+    for language in languages {
+        write_ends(alloc, *language, parts_of(text), told);
     }
 }
 
@@ -45,10 +45,10 @@ pub fn answer_blocks(alloc: Global, modes: &[Mode], text: &str, told: &mut Told)
 type Ending = Option<Result<usize, ParseError<'static>>>;
 
 /// Tells where the skip ends for each number of times from which on it ends elsewhere.
-fn write_ends(alloc: Global, mode: Mode, parts: Parts<'_>, told: &mut Told) {
+fn write_ends(alloc: Global, language: Language, parts: Parts<'_>, told: &mut Told) {
     let mut last = None;
     for count in 0..=MOST {
-        let end = end_of(alloc, mode, parts, count);
+        let end = end_of(alloc, language, parts, count);
         if count == 0 || end != last {
             write_end(count, &end, told);
         }
@@ -69,15 +69,15 @@ fn write_end(count: usize, end: &Ending, told: &mut Told) {
 }
 
 /// Where a skip of these parts ends, the second one so many times, where white space after them changes nothing.
-fn end_of(alloc: Global, mode: Mode, parts: Parts<'_>, count: usize) -> Ending {
+fn end_of(alloc: Global, language: Language, parts: Parts<'_>, count: usize) -> Ending {
     let mut input = Told::new(alloc);
     input.say(parts.before);
     input.repeat(parts.repeated, count);
     input.say(parts.after);
     let less = parts.repeated.len().saturating_mul(count);
-    let alone = skip_end(alloc, mode, input.as_str(), less);
+    let alone = skip_end(alloc, language, input.as_str(), less);
     input.say(BLANK);
-    if skip_end(alloc, mode, input.as_str(), less) == alone {
+    if skip_end(alloc, language, input.as_str(), less) == alone {
         alone
     } else {
         None
@@ -85,10 +85,10 @@ fn end_of(alloc: Global, mode: Mode, parts: Parts<'_>, count: usize) -> Ending {
 }
 
 /// Where a skip of the root ends, or its refusal, so many bytes less.
-fn skip_end(alloc: Global, mode: Mode, input: &str, less: usize) -> Ending {
+fn skip_end(alloc: Global, language: Language, input: &str, less: usize) -> Ending {
     let reading = Reading {
         alloc,
-        mode,
+        language,
         is_trusted: false,
         input: input.as_bytes(),
     };

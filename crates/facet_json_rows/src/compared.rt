@@ -1,20 +1,20 @@
-//! What parsers tell of an input: each mode, trusted and checking parsers, and each way to ask tell the same.
+//! What parsers tell of an input: each language, trusted and checking parsers, and each way to ask tell the same.
 
 use crate::cuts::tell_cuts;
 use crate::unread::{Unread, next_span, tell_parts};
 use facet_json::{
-    Answer, Call, JsonParser, drive, tree_from_slice, tree_from_slice_jsonc, tree_from_slice_strict,
+    Answer, Call, JsonParser, Language, Trust, drive, tree_from_slice, tree_from_slice_jsonc,
+    tree_from_slice_strict,
 };
 use facet_json_row_values::shown::{Telling, push, push_answers};
 use facet_json_row_values::told::Told;
-use facet_json_row_values::words::Mode;
 use std::alloc::Global;
 
 /// An input, and how it is read.
 #[derive(Clone, Copy)]
 pub struct Reading<'a> {
     pub alloc: Global,
-    pub mode: Mode,
+    pub language: Language,
     /// Whether a text's strings are not checked.
     pub is_trusted: bool,
     pub input: &'a [u8],
@@ -30,30 +30,26 @@ impl<'a> Reading<'a> {
     }
 
     fn trusting_parser(self, text: &'a str) -> JsonParser<'a> {
-        match self.mode {
-            Mode::Plain => JsonParser::new_trusted(self.alloc, text.as_bytes()),
-            Mode::Jsonc => JsonParser::new_jsonc_trusted(self.alloc, text.as_bytes()),
-            Mode::Strict => JsonParser::new_strict_trusted(self.alloc, text.as_bytes()),
-        }
+        JsonParser::in_language(self.alloc, text.as_bytes(), self.language, Trust::Utf8)
     }
 
     fn checking_parser(self) -> JsonParser<'a> {
-        match self.mode {
-            Mode::Plain => JsonParser::new(self.alloc, self.input),
-            Mode::Jsonc => JsonParser::new_jsonc(self.alloc, self.input),
-            Mode::Strict => JsonParser::new_strict(self.alloc, self.input),
+        match self.language {
+            Language::Plain => JsonParser::new(self.alloc, self.input),
+            Language::Jsonc => JsonParser::new_jsonc(self.alloc, self.input),
+            Language::Strict => JsonParser::new_strict(self.alloc, self.input),
         }
     }
 
     /// What it is called.
     fn name(self) -> &'static str {
-        match (self.mode, self.is_trusted) {
-            (Mode::Plain, false) => "plain, checked",
-            (Mode::Plain, true) => "plain, trusted",
-            (Mode::Jsonc, false) => "jsonc, checked",
-            (Mode::Jsonc, true) => "jsonc, trusted",
-            (Mode::Strict, false) => "strict, checked",
-            (Mode::Strict, true) => "strict, trusted",
+        match (self.language, self.is_trusted) {
+            (Language::Plain, false) => "plain, checked",
+            (Language::Plain, true) => "plain, trusted",
+            (Language::Jsonc, false) => "jsonc, checked",
+            (Language::Jsonc, true) => "jsonc, trusted",
+            (Language::Strict, false) => "strict, checked",
+            (Language::Strict, true) => "strict, trusted",
         }
     }
 }
@@ -99,36 +95,36 @@ impl Way<'_> {
 }
 
 /// Tells what is told of the input, and each other telling of it.
-pub fn compare(alloc: Global, modes: &[Mode], ways: &[Way<'_>], input: &[u8], written: &mut Told) {
-    let ([mode, ..], [way, ..]) = (modes, ways) else {
+pub fn compare(alloc: Global, languages: &[Language], ways: &[Way<'_>], input: &[u8], written: &mut Told) {
+    let ([language, ..], [way, ..]) = (languages, ways) else {
         return written.line("NO MODE");
     };
     let mut told = Told::new(alloc);
-    ask(checked_reading(alloc, *mode, input), *way, &mut told);
+    ask(checked_reading(alloc, *language, input), *way, &mut told);
     written.line(told.as_str());
-    write_differences(alloc, modes, ways, input, told.as_str(), written);
+    write_differences(alloc, languages, ways, input, told.as_str(), written);
 }
 
 /// Tells where these ways to ask, and parsers that trust the input and that check it, tell different things of it.
 pub fn write_disagreement(
     alloc: Global,
-    mode: Mode,
+    language: Language,
     ways: &[Way<'_>],
     input: &[u8],
     written: &mut Told,
 ) {
     if let [way, ..] = ways {
         let mut told = Told::new(alloc);
-        ask(checked_reading(alloc, mode, input), *way, &mut told);
-        write_differences(alloc, &[mode], ways, input, told.as_str(), written);
+        ask(checked_reading(alloc, language, input), *way, &mut told);
+        write_differences(alloc, &[language], ways, input, told.as_str(), written);
     }
 }
 
 /// An input that is checked.
-fn checked_reading(alloc: Global, mode: Mode, input: &[u8]) -> Reading<'_> {
+fn checked_reading(alloc: Global, language: Language, input: &[u8]) -> Reading<'_> {
     Reading {
         alloc,
-        mode,
+        language,
         is_trusted: false,
         input,
     }
@@ -137,18 +133,18 @@ fn checked_reading(alloc: Global, mode: Mode, input: &[u8]) -> Reading<'_> {
 /// Tells what is told of the input, each time that it isn't this.
 fn write_differences(
     alloc: Global,
-    modes: &[Mode],
+    languages: &[Language],
     ways: &[Way<'_>],
     input: &[u8],
     expected: &str,
     written: &mut Told,
 ) {
-    for mode in modes {
+    for language in languages {
         for way in ways {
             for is_trusted in &[false, true] {
                 let reading = Reading {
                     alloc,
-                    mode: *mode,
+                    language: *language,
                     is_trusted: *is_trusted,
                     input,
                 };
@@ -257,13 +253,13 @@ fn come_in(answers: &[Answer<'_>]) -> usize {
 fn push_tree(reading: Reading<'_>, told: &mut Told) {
     let Reading {
         alloc,
-        mode,
+        language,
         input,
         ..
     } = reading;
-    told.show(&match mode {
-        Mode::Plain => tree_from_slice(alloc, input),
-        Mode::Jsonc => tree_from_slice_jsonc(alloc, input),
-        Mode::Strict => tree_from_slice_strict(alloc, input),
+    told.show(&match language {
+        Language::Plain => tree_from_slice(alloc, input),
+        Language::Jsonc => tree_from_slice_jsonc(alloc, input),
+        Language::Strict => tree_from_slice_strict(alloc, input),
     });
 }

@@ -4,23 +4,22 @@ use crate::compared::{Reading, Way, compare, write_disagreement};
 use crate::row::ALL_EVENTS;
 use crate::unread::{Passed, Unread, last_span, next_span, passed_by, write_passed};
 use facet_format::{ParseError, Span};
-use facet_json::JsonParser;
+use facet_json::{JsonParser, Language};
 use facet_json_row_values::told::Told;
-use facet_json_row_values::words::Mode;
 use std::alloc::Global;
 
 /// What is passed of a prefix, or the refusal.
 type Cut = Result<Passed, ParseError<'static>>;
 
 /// Tells what comes of each prefix of the input, and where parsers of a prefix, or ways to ask them, tell different things.
-pub fn answer_cuts(alloc: Global, modes: &[Mode], input: &[u8], told: &mut Told) {
-    compare(alloc, modes, &[Way::Cuts], input, told);
-    for mode in modes {
+pub fn answer_cuts(alloc: Global, languages: &[Language], input: &[u8], told: &mut Told) {
+    compare(alloc, languages, &[Way::Cuts], input, told);
+    for language in languages {
         for len in 0..=input.len() {
             let prefix = &input[..len];
-            write_disagreement(alloc, *mode, &ALL_EVENTS, prefix, told);
+            write_disagreement(alloc, *language, &ALL_EVENTS, prefix, told);
             for way in &UNREAD {
-                write_disagreement(alloc, *mode, &[*way], prefix, told);
+                write_disagreement(alloc, *language, &[*way], prefix, told);
             }
         }
     }

@@ -5,14 +5,13 @@ use crate::pieces::agree;
 use crate::row::text_of;
 use crate::scans::scan_of;
 use facet_format::{FormatParser, ParseError, ParseEvent};
-use facet_json::scanner::Mode as Gaps;
 use facet_json::{Answer, Call, JsonParser, drive};
 use facet_json_command::script::parse_script;
 use facet_json_row_values::marks::mark;
 use facet_json_row_values::shown::{Telling, push_answer};
 use facet_json_row_values::told::Told;
 use facet_json_row_values::types::answer_marked_read;
-use facet_json_row_values::words::{Mode, first_word, modes};
+use facet_json_row_values::words::{first_word, languages};
 use std::alloc::{AllocError, Global};
 use std::collections::VecDeque;
 
@@ -23,14 +22,14 @@ pub fn answer_marked(alloc: Global, words: &str, input: &[u8], told: &mut Told) 
     if name == "read" {
         return answer_marked_read(alloc, words, text_of(input), told);
     }
-    let (mode, words) = first_word(words);
-    let Some(mode) = modes(mode).first() else {
+    let (language, words) = first_word(words);
+    let Some(language) = languages(language).first() else {
         return told.line("NO MODE");
     };
     let (trust, calls) = first_word(words);
     let reading = Reading {
         alloc,
-        mode: *mode,
+        language: *language,
         is_trusted: trust == "trusting",
         input,
     };
@@ -116,18 +115,14 @@ fn answer_scan(reading: Reading<'_>, step: &str, told: &mut Told) {
     if step == 0 {
         return told.line("NO STEP");
     }
-    let gaps = match reading.mode {
-        Mode::Jsonc => Gaps::Jsonc,
-        _ => Gaps::Plain,
-    };
     let mut reader = reading.input;
     mark(reading.alloc);
-    let scanned = scan_of(reading.alloc, &mut reader, step, gaps);
+    let scanned = scan_of(reading.alloc, &mut reader, step, reading.language.mode());
     mark(reading.alloc);
     told.show_line(&scanned);
 }
 
-/// Tells whether scanners of both modes find the same tokens in pieces of the input.
+/// Tells whether scanners of both languages find the same tokens in pieces of the input.
 fn answer_scanner(reading: Reading<'_>, told: &mut Told) {
     mark(reading.alloc);
     let agrees = agree(reading.input);

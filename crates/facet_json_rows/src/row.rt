@@ -18,6 +18,7 @@ use crate::program::{answer_ended, answer_failed, answer_program};
 use crate::scans::answer_pieces;
 use crate::tokens::{answer_scanner, answer_tokens};
 use crate::unread::Unread;
+use facet_json::Language;
 use facet_json_command::script::parse_script;
 use facet_json_row_values::changed::answer_change;
 use facet_json_row_values::contents::answer_content;
@@ -28,7 +29,7 @@ use facet_json_row_values::readings::answer_read_tree;
 use facet_json_row_values::told::Told;
 use facet_json_row_values::trees::{answer_equal, answer_write};
 use facet_json_row_values::types::{answer_own, answer_read};
-use facet_json_row_values::words::{Mode, first_word, modes};
+use facet_json_row_values::words::{first_word, languages};
 use std::alloc::Global;
 use std::io::ErrorKind;
 
@@ -71,7 +72,7 @@ fn answer_command(alloc: Global, command: &str, input: &[u8], told: &mut Told) {
         "out_of_memory" => answer_failed(alloc, ErrorKind::OutOfMemory, rest, input, told),
         "ended" => answer_ended(alloc, rest, told),
         "parser" => answer_parser(alloc, rest, input, told),
-        "tree" => compare(alloc, modes(rest), &[Way::Tree], input, told),
+        "tree" => compare(alloc, languages(rest), &[Way::Tree], input, told),
         _ => answer_part(alloc, name, rest, input, told),
     }
 }
@@ -106,7 +107,7 @@ fn answer_text(alloc: Global, name: &str, words: &str, text: &str, told: &mut To
     match name {
         "scanner" => answer_scanner(words, text, told),
         "decode_repeated" => answer_repeated(alloc, words, text, told),
-        "blocks" => answer_blocks(alloc, modes(words), text, told),
+        "blocks" => answer_blocks(alloc, languages(words), text, told),
         "equal" => answer_equal(alloc, text, told),
         "write" => answer_write(alloc, words, text, told),
         "read" => answer_read(alloc, words, text, told),
@@ -137,24 +138,24 @@ pub fn range(words: &str, len: usize) -> Option<(usize, usize)>
 /// `MODES SCRIPT`.
 pub fn answer_parser(alloc: Global, words: &str, input: &[u8], told: &mut Told) {
     let (word, asked) = first_word(words);
-    let modes = modes(word);
+    let languages = languages(word);
     match asked {
-        "all" => compare(alloc, modes, &ALL_EVENTS, input, told),
-        "skips" => compare(alloc, modes, &ALL_SKIPS, input, told),
-        "captures" => compare(alloc, modes, &ALL_CAPTURES, input, told),
-        "cuts" => answer_cuts(alloc, modes, input, told),
+        "all" => compare(alloc, languages, &ALL_EVENTS, input, told),
+        "skips" => compare(alloc, languages, &ALL_SKIPS, input, told),
+        "captures" => compare(alloc, languages, &ALL_CAPTURES, input, told),
+        "cuts" => answer_cuts(alloc, languages, input, told),
         _ => match asked.strip_prefix("first ") {
-            Some(count) => answer_first(alloc, modes, count, input, told),
-            None => answer_script(alloc, modes, asked, input, told),
+            Some(count) => answer_first(alloc, languages, count, input, told),
+            None => answer_script(alloc, languages, asked, input, told),
         },
     }
 }
 
 /// Tells how many of the first events come, and what comes then.
-fn answer_first(alloc: Global, modes: &[Mode], count: &str, input: &[u8], told: &mut Told) {
+fn answer_first(alloc: Global, languages: &[Language], count: &str, input: &[u8], told: &mut Told) {
     let count = count.parse().unwrap_or(0);
     let ways = [Way::FirstByNext(count), Way::FirstByEvents(count)];
-    compare(alloc, modes, &ways, input, told);
+    compare(alloc, languages, &ways, input, told);
 }
 
 /// The ways to ask for all events.
@@ -172,9 +173,9 @@ static ALL_CAPTURES: [Way<'static>; 2] = [
 ];
 
 /// Tells what parsers of the input answer to the script's calls.
-fn answer_script(alloc: Global, modes: &[Mode], script: &str, input: &[u8], told: &mut Told) {
+fn answer_script(alloc: Global, languages: &[Language], script: &str, input: &[u8], told: &mut Told) {
     match parse_script(alloc, script) {
-        Ok(calls) => compare(alloc, modes, &[Way::ByCalls(calls.as_slice())], input, told),
+        Ok(calls) => compare(alloc, languages, &[Way::ByCalls(calls.as_slice())], input, told),
         Err(_) => told.line("NO SCRIPT"),
     }
 }

@@ -8,7 +8,7 @@ use Rattle.facet_json_command.proofs.run.reformatted.Goals as goal
 pub returns-in-Ok-clause-text : goal.returns-in-Ok-clause-text
 returns-in-Ok-clause-text c =
     let passed =
-    c.in-Ok.ensures.document c.args.input.now c.args.language _ c.parser_of-parser.ensures c.serializer_of-serializer.ensures in
+    c.in-Ok.ensures.document c.args.input.now c.args.language _ c.in_language-parser.ensures c.serializer_of-serializer.ensures in
     IfOk-weaker c.text_of.result _ _
     (λ v h. record { root = passed.0; value = passed.1; document = passed.2; written = h })
     (c.text_of.ensures.written _ passed.3)
@@ -22,7 +22,7 @@ returns-in-Ok-clause-only c has = IfErr-weaker c.text_of.result _ _ (λ o h. rw 
 pub returns-clause-refused : goal.returns-clause-refused
 returns-clause-refused c =
     let input = c.args.input.now in
-    let start = c.parser_of-parser.ensures in
+    let start = c.in_language-parser.ensures in
     let empty = c.serializer_of-serializer.ensures in
     refusal_is c.args.language input _ _ start
     (λ mode is. c.refused.ensures.refused mode input (c.in-Err.ensures.refused input mode _ is empty))
@@ -32,9 +32,9 @@ returns-clause-refused c =
 pub returns-clause-only : goal.returns-clause-only
 returns-clause-only c has =
     c.refused.ensures.failed
-    (c.in-Err.ensures.only c.args.input.now c.args.language _ c.parser_of-parser.ensures c.serializer_of-serializer.ensures has)
+    (c.in-Err.ensures.only c.args.input.now c.args.language _ c.in_language-parser.ensures c.serializer_of-serializer.ensures has)
 
 pub returns-clause-within : goal.returns-clause-within
 returns-clause-within c =
     c.refused.ensures.within _
-    (subst (λ (p : Now). ErrorWithin (length p.buffer) c.in-Err.error) c.parser_of-parser.ensures c.in-Err.ensures.within)
+    (subst (λ (p : Now). ErrorWithin (length p.buffer) c.in-Err.error) c.in_language-parser.ensures c.in-Err.ensures.within)

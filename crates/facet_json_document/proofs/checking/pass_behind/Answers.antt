@@ -31,7 +31,7 @@ returns-then-skip_gap-text-clause-done c =
 pub returns-in-Ok-clause-done : goal.returns-in-Ok-clause-done
 returns-in-Ok-clause-done c =
     let behind : RustReader = record { last = c.args.last; contexts = c.new.result; stage = stages.Within places.AfterRoot } in
-    absurd (upcoming-refuses c.args.text.now (mode_of c.args.mode) (span_of c.args.last) c.requires.inside behind c.new.ensures refl refl c.in-Ok.field-0 c.in-Ok.ensures)
+    absurd (upcoming-refuses c.args.text.now (mode_of c.args.mode) (span_of c.args.last) c.requires.inside behind c.new.ensures refl refl c.in-Ok.field-0 (rw c.from-language.ensures at c.in-Ok.ensures))
 
 -- It is refused as the reader refuses it.
 told : (text : List ℕ) (mode : Mode) (last : RustSpan) (inside : stop (span_of last) ≤ length text) (contexts : List ContainerKind) (none : contexts ≡ [])
@@ -46,7 +46,7 @@ told text mode last inside contexts none to at there is w more e was r same =
 pub returns-clause-refused : goal.returns-clause-refused
 returns-clause-refused c =
     told c.args.text.now (mode_of c.args.mode) c.args.last c.requires.inside c.new.result c.new.ensures c.skip_gap.result c.end.result
-    (c.end.ensures.fits (omega (arith, c.requires.inside))) c.skip_gap.ensures.end c.skip_gap.ensures.within c.if-skip_gap-text.false c.in-Err.refused c.in-Err.ensures
+    (c.end.ensures.fits (omega (arith, c.requires.inside))) c.skip_gap.ensures.end c.skip_gap.ensures.within c.if-skip_gap-text.false c.in-Err.refused (rw c.from-language.ensures at c.in-Err.ensures)
     (refusal_of c.from-in-Err.result) (ap refusal_of c.from-in-Err.ensures ∙ c.from.ensures)
 
 pub returns-clause-within : goal.returns-clause-within

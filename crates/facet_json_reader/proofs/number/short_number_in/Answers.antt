@@ -2,10 +2,9 @@
 use Rattle.std.proofs.Common.{◌+◌, slice_range, Option, Some, None}
 use Rattle.std.specs.Prelude.{IfSome, ℕ}
 use Rattle.facet_format.specs.Number.{float}
-use Rattle.facet_json_grammar.specs.Language.{lenient, strict}
+use Rattle.facet_json_grammar.specs.Language.{strict}
 use Rattle.facet_json_token.specs.RfcNumber.{IsRfcNumber}
-use Rattle.facet_json_token.specs.Gap.{Mode}
-use Rattle.facet_json_token.specs.Views.{mode_of}
+use Rattle.facet_json_token.specs.Gap.{Mode, plain}
 use Rattle.facet_json_reader.specs.declared.number.Whole.{Whole}
 use Rattle.facet_json_reader.specs.Inner.Short.{IsShortNumber, IsShortIn}
 use Rattle.facet_json_reader.specs.Inner.Whole.{whole_scalar}
@@ -13,17 +12,8 @@ use Rattle.facet_json_reader.proofs.AllowedTexts.{rfc_number-allowed}
 use Rattle.facet_json_reader.proofs.QuickEvents.{number-kind}
 use Rattle.facet_json_reader.proofs.number.short_number_in.Goals as goal
 
-pub returns-in-Lenient : goal.returns-in-Lenient
-returns-in-Lenient c = rw c.in-Lenient.is (by (mode_of c.in-Lenient.field-0) c.short_number.result c.short_number.ensures)
-  where
-    by : (mode : Mode) (o : Option (ℕ × Option Whole)) → IfSome o (λ r. IsShortNumber c.args.input.now c.args.at r.0 r.1) →
-        IfSome o (λ r. IsShortIn (lenient mode) c.args.input.now c.args.at r.0 r.1)
-    by mode None short = tt
-    by mode (Some (len, Some told)) short = (short, tt)
-    by mode (Some (len, None)) short = (short, tt)
-
 pub returns-in-Strict : goal.returns-in-Strict
-returns-in-Strict c = rw c.in-Strict.is (by (mode_of c.in-Strict.field-0) c.short_number_strict.result c.short_number_strict.ensures.there c.short_number_strict.ensures.strict)
+returns-in-Strict c = rw c.in-Strict.is (by plain c.short_number_strict.result c.short_number_strict.ensures.there c.short_number_strict.ensures.strict)
   where
     by : (mode : Mode) (o : Option (ℕ × Option Whole)) → IfSome o (λ r. IsShortNumber c.args.input.now c.args.at r.0 r.1) →
         IfSome o (λ r. IsRfcNumber (slice_range c.args.input.now c.args.at (c.args.at + r.0))) →

@@ -5,4 +5,5 @@ use Rattle.facet_json_core.proofs.laws.trust.trusted_agrees.Goals as goal
 
 pub returns-clause-alike : goal.returns-clause-alike
 returns-clause-alike c =
-    subst (AnswerAlike c.new_trusted.result) (c.new_trusted.ensures ∙ sym c.new.ensures) (moves-agree c.new_trusted.result)
+    subst (AnswerAlike c.in_language-trusted.result) (c.in_language-trusted.ensures ∙ sym c.in_language-checking.ensures)
+    (moves-agree c.in_language-trusted.result)

@@ -8,7 +8,7 @@ pub invariant_of-result : goal.invariant_of-result
 invariant_of-result c = (
   first-ready c.args.input.now (language_of c.args.language) (lookahead_of c.new.result) (map point_of c.new-2.result.items) c.new.ensures
       (ap (map point_of) c.new-2.ensures.items),
-  c.requires,
+  c.requires.utf8,
 )
 
 pub returns : goal.returns
