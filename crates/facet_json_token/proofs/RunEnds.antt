@@ -5,7 +5,7 @@ use Rattle.std.proofs.lemmas.Bool.{cases_order}
 use Rattle.std.proofs.lemmas.List.{get_or-drop, length-drop}
 use Rattle.std.proofs.lemmas.List.Sums.{prefix_len-le-length, prefix_len_stops}
 use Rattle.std.proofs.lemmas.Option.{slice_get_within, get_or_from_slice_get}
-use Rattle.facet_format.proofs.Windows.{mask_through, mask_stops, mask_within}
+use Rattle.facet_format.proofs.Windows.{mask_stops, mask_within}
 use lib.Lanes.{chunk, mask_l}
 use lib.Count.{count_trailing_zeros}
 
@@ -18,18 +18,7 @@ SameRun p bytes start place limit =
       same : start + prefix_len (λ b. not (p b)) (drop start bytes) ≡ place + prefix_len (λ b. not (p b)) (drop place bytes);
     }
 
--- a window without a bit is passed
-pub window-passed : (p : ℕ → Bool) (bytes : List ℕ) (start at found : ℕ) → SameRun p bytes start at (length bytes) → at + 16 ≤ length bytes →
-    found ≡ mask_l (map p (chunk at 16 bytes)) → found ≡ 0 → SameRun p bytes start (at + 16) (length bytes)
-window-passed p bytes start at found way room mask none =
-    let run = mask_through p bytes at 16 room (sym mask ∙ none) in
-    record {
-      ahead = omega (arith, way.ahead);
-      within = room;
-      same = omega (arith, run, way.same);
-    }
-
--- in another the run ends at the first bit
+-- in a window with a bit the run ends at the first one
 pub window-stops : (p : ℕ → Bool) (bytes : List ℕ) (at found : ℕ) → at + 16 ≤ length bytes → found ≡ mask_l (map p (chunk at 16 bytes)) → 0 < found →
     (prefix_len (λ b. not (p b)) (drop at bytes) ≡ count_trailing_zeros 64 found) × (count_trailing_zeros 64 found < 16)
 window-stops p bytes at found room mask some =

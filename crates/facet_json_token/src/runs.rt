@@ -1,6 +1,6 @@
 //! Where runs of bytes end, sixteen bytes at a time.
 
-ghost use Rattle.std.specs.Prelude.{◌≡◌, ℕ, ◌+◌, ◌≤◌, ◌<◌, Bool, not, length, drop, map};
+ghost use Rattle.std.specs.Prelude.{◌≡◌, ℕ, ◌+◌, ◌≤◌, ◌<◌, Bool, not, length, drop, map, MatchOption};
 ghost use Rattle.std.specs.List.{prefix_len};
 ghost use Rattle.std.specs.Simd.Lanes.{mask_l};
 ghost use Rattle.facet_json_token.specs.Inner.Ascii.{is_high};
@@ -156,9 +156,8 @@ pub(crate) fn run_end<R: Run>(buffer: &[u8], from: usize) -> usize
 {
     let mut at = from;
     while buffer.len() - at >= 16 {
-        let found = R::stops(u8x16::from_slice(&buffer[at..]));
-        if found != 0 {
-            return at + found.trailing_zeros() as usize;
+        if let Some(end) = window_end::<R>(buffer, at) {
+            return end;
         }
         at += 16;
     }
@@ -181,13 +180,27 @@ pub(crate) fn run_end_within<R: Run>(buffer: &[u8], at: usize, end: usize) -> us
         if buffer.len() - stop < 16 {
             return run_end_bytewise::<R>(buffer, stop, end);
         }
-        let found = R::stops(u8x16::from_slice(&buffer[stop..]));
-        if found != 0 {
-            return nearer(stop + found.trailing_zeros() as usize, end);
+        if let Some(found) = window_end::<R>(buffer, stop) {
+            return nearer(found, end);
         }
         stop += 16;
     }
     end
+}
+
+/// The offset where the run from `at` on ends, if it ends within the sixteen bytes there.
+#[inline(always)]
+fn window_end<R: Run>(buffer: &[u8], at: usize) -> Option<usize>
+    requires { at + 16 ≤ length buffer.now }
+    ensures { let run = prefix_len (λ b. not (R.is_end b)) (drop at buffer.now) in MatchOption result
+        (run ≡ 16 + prefix_len (λ b. not (R.is_end b)) (drop (at + 16) buffer.now))
+        (λ end. (end ≡ at + run) × (run < 16)) }
+{
+    let found = R::stops(u8x16::from_slice(&buffer[at..]));
+    if found == 0 {
+        return None;
+    }
+    Some(at + found.trailing_zeros() as usize)
 }
 
 /// The end of the run, byte by byte: of a buffer's last bytes, which are fewer than a window.
