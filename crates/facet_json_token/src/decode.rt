@@ -2,7 +2,7 @@
 //! whole, and escapes between them are read one by one, in `escape`.
 
 ghost use Rattle.std.specs.Prelude.{◌≡◌, ℕ, ◌≤◌, ◌<◌, List, [], Some, None, true, false, length, slice_range, slice_index, string_bytes};
-ghost use Rattle.std.specs.Prelude.{IfOk, IfErr, IfSome, IsSome, IsUtf8, MatchOption, MatchResult};
+ghost use Rattle.std.specs.Prelude.{Err, IfOk, IfErr, IfSome, IsSome, IsUtf8, MatchOption, MatchResult};
 ghost use Rattle.std.specs.Cow.{cow_str_bytes, IsOwnedStr, IsBorrowedStr};
 ghost use Rattle.facet_json_token.specs.declared.decode.DecodeError.TheVariants as refusal;
 ghost use Rattle.facet_format.specs.Bytes.{backslash};
@@ -275,19 +275,21 @@ pub fn decode_string<'b>(
         let text = decode_string_owned(alloc, buf, start, end)?;
         return Ok(CowStr::Owned(text));
     }
-    match decode_string_borrowed(buf, start, end) {
-        Some(text) => Ok(CowStr::Borrowed(text)),
-        None => Err(whole_refusal(start, end)),
-    }
+    lent(decode_string_borrowed(buf, start, end), start, end)
 }
 
-/// The refusal of a content that isn't its own text.
-fn whole_refusal(start: usize, end: usize) -> DecodeError
+/// The content that is its own text, without memory, or the refusal of one that isn't.
+fn lent<'b>(text: Option<&'b str>, start: usize, end: usize) -> Result<CowStr<'b>, DecodeError>
     requires { start ≤ end }
-    ensures { result ≡ whole_refused start end }
+    ensures { MatchOption text.entry
+        (result ≡ Err (whole_refused start end))
+        (λ s. MatchResult result (λ c. IsBorrowedStr c × (cow_str_bytes c ≡ s.now)) (λ _. ⊥)) }
 {
-    DecodeError::Scan(ScanError {
-        kind: ScanErrorKind::InvalidUtf8,
-        span: Span::new(start, end - start),
-    })
+    match text {
+        Some(text) => Ok(CowStr::Borrowed(text)),
+        None => Err(DecodeError::Scan(ScanError {
+            kind: ScanErrorKind::InvalidUtf8,
+            span: Span::new(start, end - start),
+        })),
+    }
 }

@@ -7,7 +7,6 @@
 mod ascii;
 pub mod cutting;
 mod decode;
-mod decode_refusal;
 mod fault;
 mod mode;
 mod number;

@@ -7,7 +7,7 @@ ghost use Rattle.facet_json_token.specs.Decode.{Decodes};
 ghost use Rattle.facet_json_token.specs.Decoded.{decoded};
 ghost use Rattle.facet_json_token.specs.DecodeViews.{IsItsText, RefusesContent, whole_refused};
 
-use super::{DecodeError, borrowed_run, decode_runs, whole_refusal};
+use super::{DecodeError, borrowed_run, decode_runs, lent};
 use crate::mode::Trust;
 use std::alloc::Global;
 use std::borrow::CowStr;
@@ -66,8 +66,9 @@ pub fn decode_string_unchecked<'b>(
         let text = decode_string_owned_unchecked(alloc, buf, start, end)?;
         return Ok(CowStr::Owned(text));
     }
-    match decode_string_borrowed_unchecked(buf, start, end) {
-        Some(text) => Ok(CowStr::Borrowed(text)),
-        None => Err(whole_refusal(start, end)),
-    }
+    lent(
+        decode_string_borrowed_unchecked(buf, start, end),
+        start,
+        end,
+    )
 }
