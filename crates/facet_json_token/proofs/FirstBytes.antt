@@ -6,6 +6,8 @@ use Rattle.facet_json_token.specs.Gap.{Mode, plain, jsonc}
 use Rattle.facet_format.specs.Number.{Hint}
 use Rattle.facet_format.specs.NumberParts.{parts, parts_len, parts_hint, is_bare, starts_number}
 use Rattle.facet_json_token.specs.Token.{Kind, unexpected_char, unexpected_eof, in_literal, in_block_comment}
+use Rattle.facet_json_token.specs.Token as kinds
+use Rattle.facet_json_token.specs.Shape.{IsStructural, object_starts, object_ends, array_starts, array_ends, colon_stands, comma_stands}
 use Rattle.facet_json_token.specs.Cut.{Cut, nothing_left, Start, punctuation, letter, opens_text, opens_number, opens_comment, opens_nothing, start_of, token_at, fault_at, common_len, content_len, cut_word, cut_text, cut_number, cut_slash, cut_by, cut_here}
 use Rattle.facet_json_token.specs.declared.token.Token.TheVariants as code
 use Rattle.facet_json_token.specs.declared.token.SpannedToken.{SpannedToken}
@@ -58,18 +60,19 @@ pub start_of-number_range : (b : ℕ) → minus ≤ b → b ≤ 0x39 → b ≢ 0
 start_of-number_range b low high no_dot no_slash =
     start_of-number b (starts_number-range b low high no_dot no_slash)
 
--- any other byte begins nothing
-pub start_of-nothing : (b : ℕ) → b ≢ left_brace → b ≢ right_brace → b ≢ left_bracket → b ≢ right_bracket → b ≢ colon →
-    b ≢ comma → b ≢ quote → b ≢ lower_n → b ≢ lower_t → b ≢ lower_f → b ≢ minus → b ≢ slash →
-    (b < 0x30) ⊎ (0x39 < b) → start_of b ≡ opens_nothing
-start_of-nothing b h0 h1 h2 h3 h4 h5 h6 h7 h8 h9 no_minus no_slash no_digit =
+-- any other byte that stands for nothing alone begins nothing
+pub start_of-nothing : (b : ℕ) → ((kind : Kind) → IsStructural b kind → ⊥) → b ≢ quote → b ≢ lower_n → b ≢ lower_t → b ≢ lower_f →
+    b ≢ minus → b ≢ slash → (b < 0x30) ⊎ (0x39 < b) → start_of b ≡ opens_nothing
+start_of-nothing b no_mark h6 h7 h8 h9 no_minus no_slash no_digit =
     let digit : is_digit b ≡ false =
     elim no_digit [
       | inl low ↦ and_left (nat_le 0x30 b) (nat_le b 0x39) (lt-leb 0x30 b low)
       | inr high ↦ and_right (nat_le 0x30 b) (nat_le b 0x39) (lt-leb b 0x39 high)
     ] in
     let starts : starts_number b ≡ false = or_from (eqb b minus) (is_digit b) (ne_eqb b minus no_minus) digit in
-    start_of-others b h0 h1 h2 h3 h4 h5 h6 h7 h8 h9
+    start_of-others b (λ e. no_mark kinds.object_start (rw e object_starts)) (λ e. no_mark kinds.object_end (rw e object_ends))
+    (λ e. no_mark kinds.array_start (rw e array_starts)) (λ e. no_mark kinds.array_end (rw e array_ends))
+    (λ e. no_mark kinds.colon (rw e colon_stands)) (λ e. no_mark kinds.comma (rw e comma_stands)) h6 h7 h8 h9
     ∙ ap (λ v. cond v opens_number (cond (eqb b slash) opens_comment opens_nothing)) starts
     ∙ ap (λ v. cond v opens_comment opens_nothing) (ne_eqb b slash no_slash)
 

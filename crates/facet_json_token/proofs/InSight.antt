@@ -10,8 +10,10 @@ use Rattle.facet_format.specs.Views.{span_of}
 use Rattle.facet_format.specs.declared.span.Span.{Span as RustSpan}
 use Rattle.facet_json_token.specs.Gap.{Mode, plain, jsonc, whole}
 use Rattle.facet_json_token.specs.GapLen.{piece_len, gap_len}
-use Rattle.facet_json_token.specs.Cut.{Cut, Start, letter, start_of, token_at, cut_by, cut_word, common_len, past_gap, cut_here, cut}
+use Rattle.facet_json_token.specs.Cut.{Cut, Start, punctuation, letter, start_of, token_at, cut_by, cut_word, common_len, past_gap}
+use Rattle.facet_json_token.specs.Cut.{cut_here, cut}
 use Rattle.facet_json_token.specs.Token.{Kind}
+use Rattle.facet_json_token.specs.Shape.{IsStructural, object_starts, object_ends, array_starts, array_ends, colon_stands, comma_stands}
 use Rattle.facet_json_token.specs.declared.token.Token.{Token as RustToken}
 use Rattle.facet_json_token.specs.declared.token.Token.TheVariants as code
 use Rattle.facet_json_token.specs.declared.token.SpannedToken.{SpannedToken}
@@ -20,6 +22,7 @@ use Rattle.facet_json_token.specs.Inner.InSight.{told}
 use Rattle.facet_json_token.specs.Inner.Window.{is_blank}
 use Rattle.facet_json_token.proofs.Offsets.{drop-at_byte, slice_get-from_read}
 use Rattle.facet_json_token.proofs.FirstBytes.{cut_here-by, cut_here-word, cut_here-number, start_of-number_range}
+use Rattle.facet_json_token.proofs.Starts.{start_of-structural}
 use Rattle.facet_json_token.proofs.NumberCuts.{number_at}
 use Rattle.facet_json_token.proofs.Gaps.{piece_len-blank, gap_len-none, gap_len-piece}
 use Rattle.facet_json_token.proofs.GapSteps.{past_gap-piece}
@@ -109,6 +112,22 @@ cut-by : (buffer : List ℕ) (at b : ℕ) (start : Start) → slice_get buffer a
     is_space b ≡ false → eqb b slash ≡ false → (mode : Mode) → cut_by start mode at b (drop (at + 1) buffer) ≡ cut buffer at mode
 cut-by buffer at b start h e s n mode = cut_here-by mode buffer at b start h e ∙ cut-here mode buffer at b h s n
 
+-- a bracket, a colon or a comma is neither white space nor a slash
+structural_byte : (b : ℕ) (kind : Kind) → IsStructural b kind → (is_space b ≡ false) × (eqb b slash ≡ false)
+structural_byte _ _ object_starts = (refl, refl)
+structural_byte _ _ object_ends = (refl, refl)
+structural_byte _ _ array_starts = (refl, refl)
+structural_byte _ _ array_ends = (refl, refl)
+structural_byte _ _ colon_stands = (refl, refl)
+structural_byte _ _ comma_stands = (refl, refl)
+
+-- and is cut where it stands
+pub structural-is_cut : (buffer : List ℕ) (at b : ℕ) (kind : Kind) → slice_get buffer at ≡ Some b → IsStructural b kind → (mode : Mode) →
+    token_at kind at 1 ≡ cut buffer at mode
+structural-is_cut buffer at b kind here is mode =
+    let no_gap = structural_byte b kind is in
+    cut-by buffer at b (punctuation kind) here (start_of-structural b kind is) no_gap.0 no_gap.1 mode
+
 -- a literal
 cut-word : (buffer : List ℕ) (at b : ℕ) (word : List ℕ) (kind : Kind) → slice_get buffer at ≡ Some b →
     start_of b ≡ letter word kind → is_space b ≡ false → eqb b slash ≡ false → (mode : Mode) →
@@ -140,25 +159,11 @@ cut_word-whole buffer at word k e =
 
 -- ---- the answer
 
--- what is told, by what it is
-pub told-is : (found : Option SpannedToken) (x y : Cut) → IfSome found (λ t. told t ≡ Some x) → x ≡ y →
-    IfSome found (λ t. told t ≡ Some y)
-told-is None x y h e = tt
-told-is (Some t) x y h e = h ∙ ap Some e
-
+-- a token that is told, in any mode
 pub told-cut : (found : Option SpannedToken) (x : Cut) (buffer : List ℕ) (at : ℕ) → IfSome found (λ t. told t ≡ Some x) →
     ((mode : Mode) → x ≡ cut buffer at mode) → IfSome found (λ t. (mode : Mode) → told t ≡ Some (cut buffer at mode))
 told-cut None x buffer at h e = tt
 told-cut (Some t) x buffer at h e = λ mode. h ∙ ap Some (e mode)
-
--- a byte tells what it begins
-pub told-by : (found : Option SpannedToken) (buffer : List ℕ) (at b byte : ℕ) (start : Start) (x : Cut) →
-    (at < length buffer) × ((d : ℕ) → b ≡ get_or buffer at d) → b ≡ byte → start_of byte ≡ start → is_space byte ≡ false →
-    eqb byte slash ≡ false → ((mode : Mode) → x ≡ cut_by start mode at byte (drop (at + 1) buffer)) →
-    IfSome found (λ t. told t ≡ Some x) → IfSome found (λ t. (mode : Mode) → told t ≡ Some (cut buffer at mode))
-told-by found buffer at b byte start x read is starts no_space no_slash same h =
-    let here = slice_get-from_read buffer at b byte read is in
-    told-cut found x buffer at h (λ mode. same mode ∙ cut-by buffer at byte start here starts no_space no_slash mode)
 
 -- a letter tells the literal
 pub told-word : (found : Option SpannedToken) (buffer : List ℕ) (at b byte : ℕ) (word : List ℕ) (kind : Kind) →

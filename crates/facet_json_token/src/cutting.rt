@@ -17,11 +17,10 @@ ghost use Rattle.facet_format.specs.Views.{span_of};
 
 use crate::fault::{CutResult, Fault, FaultKind, Inside};
 use crate::mode::Mode;
-use crate::quick::{past_space, token_in_sight};
+use crate::quick::{number_in_sight, past_space, spanned, structural, token_in_sight};
 use crate::runs::{Line, Plain, Starless, run_end};
 use crate::token::{SpannedToken, Token};
 use facet_format::Span;
-use facet_format::numeral::{NumberHint, parts_at};
 
 /// Cuts what stands at `position`: the gap (RFC 8259, section 2), and then a token, the end or a fault. `buffer` is the
 /// whole input. What one look tells (`token_in_sight`) is made in line, all else out of line.
@@ -167,19 +166,16 @@ pub fn cut_token(buffer: &[u8], at: usize, first: u8, mode: Mode) -> CutResult
     ensures { cut_of result ≡ Some (cut_here (mode_of mode) at (drop at buffer.now)) }
 {
     match first {
-        b'{' => token_at(Token::ObjectStart, at, 1),
-        b'}' => token_at(Token::ObjectEnd, at, 1),
-        b'[' => token_at(Token::ArrayStart, at, 1),
-        b']' => token_at(Token::ArrayEnd, at, 1),
-        b':' => token_at(Token::Colon, at, 1),
-        b',' => token_at(Token::Comma, at, 1),
         b'"' => cut_text(buffer, at),
         b'n' => cut_word(buffer, at, b"null", Token::Null),
         b't' => cut_word(buffer, at, b"true", Token::True),
         b'f' => cut_word(buffer, at, b"false", Token::False),
         b'-' | b'0'..=b'9' => cut_number(buffer, at),
         b'/' => cut_slash(buffer, at, mode),
-        _ => unexpected_char(first, at),
+        _ => match structural(first, at) {
+            Some(token) => Ok(token),
+            None => unexpected_char(first, at),
+        },
     }
 }
 
@@ -188,10 +184,7 @@ pub fn cut_token(buffer: &[u8], at: usize, first: u8, mode: Mode) -> CutResult
 pub fn token_at(token: Token, at: usize, len: usize) -> CutResult
     ensures { (k : Kind) → kind_of token ≡ Some k → cut_of result ≡ Some (spec_cut.token_at k at len) }
 {
-    Ok(SpannedToken {
-        token,
-        span: Span::new(at, len),
-    })
+    Ok(spanned(token, at, len))
 }
 
 /// The fault that this byte stands at `at`.
@@ -301,17 +294,10 @@ pub fn cut_number(buffer: &[u8], at: usize) -> CutResult
     ensures { let p = parts (drop at buffer.now) in cut_of result
         ≡ Some (spec_cut.cut_number at (drop (at + 1) buffer.now) (parts_len p) (parts_hint p) (is_bare p)) }
 {
-    let parts = parts_at(buffer, at);
-    if parts.is_bare() {
-        return cut_bare_minus(buffer, at);
+    match number_in_sight(buffer, at) {
+        Some(token) => Ok(token),
+        None => cut_bare_minus(buffer, at),
     }
-    let len = parts.len();
-    let token = Token::Number {
-        start: at,
-        end: at + len,
-        hint: parts.hint(),
-    };
-    token_at(token, at, len)
 }
 
 /// The fault of a minus at `at` with no number after it.

@@ -1,14 +1,15 @@
 //! What a few bytes decide: tokens that the bytes after an offset show whole (all but faults, strings with escapes, and what stands after
 //! comments or at the end), and the ends of gaps and texts, for readers that make no token of them. Everything else is left to `cutting`.
 
-ghost use Rattle.std.specs.Prelude.{◌≡◌, ℕ, ◌+◌, ◌-◌, ◌<◌, ◌≤◌, false, length, drop, Some, slice_get, IfSome, true};
+ghost use Rattle.std.specs.Prelude.{◌≡◌, ℕ, ◌+◌, ◌-◌, ◌<◌, ◌≤◌, false, length, drop, Some, slice_get, IfNone, IfSome, MatchOption, true};
 ghost use Rattle.facet_format.specs.Bytes.{quote, space, is_space};
 ghost use Rattle.facet_json_token.specs.Gap.{Mode as SpecMode};
 ghost use Rattle.facet_json_token.specs.Token.{string, Kind};
-ghost use Rattle.facet_json_token.specs.Cut.{cut_here, past_gap, token_at, content_len};
+ghost use Rattle.facet_json_token.specs.Cut.{cut_here, past_gap, token_at};
 ghost use Rattle.facet_json_token.specs.Views.{mode_of, kind_of};
 ghost use Rattle.facet_format.specs.NumberParts.{parts, parts_len, parts_hint, is_bare};
 ghost use Rattle.facet_json_token.specs.Cut as spec_cut;
+ghost use Rattle.facet_json_token.specs.Shape.{IsStructural};
 ghost use Rattle.facet_json_token.specs.Inner.InSight.{told};
 
 use crate::cutting::skip_gap;
@@ -130,14 +131,13 @@ fn is_above_space(buffer: &[u8], at: usize) -> bool
 pub fn token_in_sight(buffer: &[u8], at: usize) -> Option<SpannedToken>
     ensures { IfSome result (λ t. (mode : SpecMode) → told t ≡ Some (spec_cut.cut buffer.now at mode)) }
 {
-    match buffer.get(at)? {
+    let first = *buffer.get(at)?;
+    // First: behind the range of digits these bytes would pass more tests.
+    if let Some(token) = structural(first, at) {
+        return Some(token);
+    }
+    match first {
         b'"' => text_in_sight(buffer, at),
-        b',' => token_of(Token::Comma, at, 1),
-        b':' => token_of(Token::Colon, at, 1),
-        b'{' => token_of(Token::ObjectStart, at, 1),
-        b'}' => token_of(Token::ObjectEnd, at, 1),
-        b'[' => token_of(Token::ArrayStart, at, 1),
-        b']' => token_of(Token::ArrayEnd, at, 1),
         b'-' | b'0'..=b'9' => number_in_sight(buffer, at),
         b't' => word_in_sight(buffer, at, b"true", Token::True),
         b'f' => word_in_sight(buffer, at, b"false", Token::False),
@@ -146,37 +146,48 @@ pub fn token_in_sight(buffer: &[u8], at: usize) -> Option<SpannedToken>
     }
 }
 
-/// A token of `len` bytes at `at`.
+/// The token that this byte at `at` is alone, if it is a bracket, a colon or a comma (RFC 8259, section 2).
 #[inline(always)]
-fn token_of(token: Token, at: usize, len: usize) -> Option<SpannedToken>
-    ensures { (k : Kind) → kind_of token ≡ Some k → IfSome result (λ t. told t ≡ Some (spec_cut.token_at k at len)) }
+pub fn structural(byte: u8, at: usize) -> Option<SpannedToken>
+    ensures { MatchOption result
+        ((kind : Kind) → IsStructural byte kind → ⊥)
+        (λ t. (kind : Kind) × IsStructural byte kind × (told t ≡ Some (token_at kind at 1))) }
 {
-    Some(SpannedToken {
+    match byte {
+        b'{' => Some(spanned(Token::ObjectStart, at, 1)),
+        b'}' => Some(spanned(Token::ObjectEnd, at, 1)),
+        b'[' => Some(spanned(Token::ArrayStart, at, 1)),
+        b']' => Some(spanned(Token::ArrayEnd, at, 1)),
+        b':' => Some(spanned(Token::Colon, at, 1)),
+        b',' => Some(spanned(Token::Comma, at, 1)),
+        _ => None,
+    }
+}
+
+/// This token, which takes `len` bytes at `at`.
+#[inline(always)]
+pub(crate) fn spanned(token: Token, at: usize, len: usize) -> SpannedToken
+    ensures { (k : Kind) → kind_of token ≡ Some k → told result ≡ Some (spec_cut.token_at k at len) }
+{
+    SpannedToken {
         token,
         span: Span::new(at, len),
-    })
+    }
 }
 
 /// The string without escapes whose quote is at `at`.
 #[inline(always)]
 fn text_in_sight(buffer: &[u8], at: usize) -> Option<SpannedToken>
-    requires { at < length buffer.now }
-    ensures { IfSome result (λ t. let bytes = drop (at + 1) buffer.now in told t
-        ≡ Some (spec_cut.cut_text at bytes (content_len false bytes))) }
+    requires { slice_get buffer.now at ≡ Some quote }
+    ensures { IfSome result (λ t. (mode : SpecMode) → told t ≡ Some (spec_cut.cut buffer.now at mode)) }
 {
-    let start = at + 1;
-    let end = run_end::<Plain>(buffer, start);
-    match buffer.get(end) {
-        Some(b'"') => {
-            let token = Token::String {
-                start,
-                end,
-                has_escapes: false,
-            };
-            token_of(token, at, end + 1 - at)
-        }
-        _ => None,
-    }
+    let end = plain_text_end(buffer, at)?;
+    let token = Token::String {
+        start: at + 1,
+        end,
+        has_escapes: false,
+    };
+    Some(spanned(token, at, end + 1 - at))
 }
 
 /// The literal of these letters at `at`.
@@ -187,18 +198,19 @@ fn word_in_sight(buffer: &[u8], at: usize, word: &[u8], token: Token) -> Option<
         ≡ Some (spec_cut.cut_word at bytes word.now k (spec_cut.common_len word.now bytes))) }
 {
     if buffer[at..].starts_with(word) {
-        token_of(token, at, word.len())
+        Some(spanned(token, at, word.len()))
     } else {
         None
     }
 }
 
-/// The number at `at`.
+/// The number at `at`, where more than a minus stands.
 #[inline(always)]
-fn number_in_sight(buffer: &[u8], at: usize) -> Option<SpannedToken>
+pub(crate) fn number_in_sight(buffer: &[u8], at: usize) -> Option<SpannedToken>
     requires { at < length buffer.now }
-    ensures { IfSome result (λ t. let p = parts (drop at buffer.now) in told t
+    ensures told { IfSome result (λ t. let p = parts (drop at buffer.now) in told t
         ≡ Some (spec_cut.cut_number at (drop (at + 1) buffer.now) (parts_len p) (parts_hint p) (is_bare p))) }
+    ensures bare { IfNone result (is_bare (parts (drop at buffer.now)) ≡ true) }
 {
     let parts = parts_at(buffer, at);
     if parts.is_bare() {
@@ -210,5 +222,5 @@ fn number_in_sight(buffer: &[u8], at: usize) -> Option<SpannedToken>
         end: at + len,
         hint: parts.hint(),
     };
-    token_of(token, at, len)
+    Some(spanned(token, at, len))
 }

@@ -1,46 +1,12 @@
 -- Each arm cuts what its byte begins.
 use Rattle.std.proofs.Common.{◌<◌, ◌⊎◌, inl, inr, Some, ap, ◌∙◌, refl, arith}
-use Rattle.facet_json_token.specs.Token.{object_start, object_end, array_start, array_end, colon, comma, null, true_literal, false_literal}
-use Rattle.facet_json_token.specs.Cut.{start_of, opens_text, opens_comment, opens_nothing}
+use Rattle.facet_json_token.specs.Token.{null, true_literal, false_literal}
+use Rattle.facet_json_token.specs.Cut.{start_of, punctuation, opens_text, opens_comment, opens_nothing}
 use Rattle.facet_json_token.proofs.FirstBytes.{cut_here-by, cut_here-word, cut_here-number, start_of-number_range, start_of-nothing}
+use Rattle.facet_json_token.proofs.InSight.{cut_of-told}
+use Rattle.facet_json_token.proofs.Starts.{start_of-structural}
 use Rattle.facet_json_token.proofs.cutting.cut_token.Goals as goal
 use Rattle.facet_json_token.proofs.cutting.cut_token.Goals.{in_default-via-then-first-lt47, in_default-via-else-first-lt47+else-first-lt58}
-
-pub returns-in-123 : goal.returns-in-123
-unfolding start_of
-returns-in-123 c =
-    c.token_at.ensures object_start refl
-    ∙ ap Some (cut_here-by _ c.args.buffer.now c.args.at c.args.first _ c.requires (ap start_of c.in-123.is))
-
-pub returns-in-125 : goal.returns-in-125
-unfolding start_of
-returns-in-125 c =
-    c.token_at-in-125.ensures object_end refl
-    ∙ ap Some (cut_here-by _ c.args.buffer.now c.args.at c.args.first _ c.requires (ap start_of c.in-125.is))
-
-pub returns-in-91 : goal.returns-in-91
-unfolding start_of
-returns-in-91 c =
-    c.token_at-in-91.ensures array_start refl
-    ∙ ap Some (cut_here-by _ c.args.buffer.now c.args.at c.args.first _ c.requires (ap start_of c.in-91.is))
-
-pub returns-in-93 : goal.returns-in-93
-unfolding start_of
-returns-in-93 c =
-    c.token_at-in-93.ensures array_end refl
-    ∙ ap Some (cut_here-by _ c.args.buffer.now c.args.at c.args.first _ c.requires (ap start_of c.in-93.is))
-
-pub returns-in-58 : goal.returns-in-58
-unfolding start_of
-returns-in-58 c =
-    c.token_at-in-58.ensures colon refl
-    ∙ ap Some (cut_here-by _ c.args.buffer.now c.args.at c.args.first _ c.requires (ap start_of c.in-58.is))
-
-pub returns-in-44 : goal.returns-in-44
-unfolding start_of
-returns-in-44 c =
-    c.token_at-in-44.ensures comma refl
-    ∙ ap Some (cut_here-by _ c.args.buffer.now c.args.at c.args.first _ c.requires (ap start_of c.in-44.is))
 
 pub returns-in-110 : goal.returns-in-110
 unfolding start_of
@@ -77,8 +43,15 @@ returns-in-45 c =
     let begins = start_of-number_range c.args.first (grind arith) (grind arith) (grind arith) (grind arith) in
     c.cut_number.ensures ∙ ap Some (cut_here-number _ c.args.buffer.now c.args.at c.args.first c.requires begins)
 
-pub returns-in_default : goal.returns-in_default
-returns-in_default c =
+pub returns-in-Some : goal.returns-in-Some
+returns-in-Some c =
+    let is = c.in-Some.ensures in
+    let begins = start_of-structural c.args.first is.0 is.1 in
+    cut_of-told c.in-Some.token _ is.2
+    ∙ ap Some (cut_here-by _ c.args.buffer.now c.args.at c.args.first (punctuation is.0) c.requires begins)
+
+pub returns-in-None : goal.returns-in-None
+returns-in-None c =
     let b = c.args.first in
     let no_digit : (b < 0x30) ⊎ (0x39 < b) =
     elim c.in_default.branch [
@@ -86,6 +59,5 @@ returns-in_default c =
       | in_default-via-else-first-lt47+else-first-lt58 w ↦ inr (omega arith)
     ] in
     let begins =
-    start_of-nothing b (omega arith) (omega arith) (omega arith) (omega arith) (omega arith) (omega arith)
-    (omega arith) (omega arith) (omega arith) (omega arith) (omega arith) (omega arith) no_digit in
+    start_of-nothing b c.in-None.ensures (omega arith) (omega arith) (omega arith) (omega arith) (omega arith) (omega arith) no_digit in
     c.unexpected_char.ensures ∙ ap Some (cut_here-by _ c.args.buffer.now c.args.at b opens_nothing c.requires begins)
