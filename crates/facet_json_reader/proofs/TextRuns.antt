@@ -7,6 +7,7 @@ use Rattle.std.proofs.lemmas.Bool.{and_from, le-leb, ltb-false, not-true, not_fr
 use Rattle.std.proofs.lemmas.List.{get_or-drop}
 use Rattle.std.proofs.lemmas.List.Sums.{prefix_len_passes}
 use Rattle.std.proofs.lemmas.Option.{get_or_from_slice_get, slice_get_within}
+use Rattle.std.proofs.lemmas.Str.{IsUtf8-append}
 use Rattle.facet_format.specs.Bytes.{quote, backslash}
 use Rattle.facet_json_token.specs.Cut.{content_len, cut_here, opens_text, start_of, token_at}
 use Rattle.facet_json_token.specs.Gap.{Mode}
@@ -17,7 +18,8 @@ use Rattle.facet_json_token.proofs.TextSteps.{content-ends, cut_text-ends}
 use Rattle.facet_json_token.proofs.TextWindows.{content-after_run, marks-of_run}
 use Rattle.facet_json_token.specs.Inner.Ascii.{is_high, is_low}
 use Rattle.facet_json_token.proofs.AsciiRuns.{run-IsUtf8}
-use Rattle.facet_json_reader.specs.Inner.Window.{is_stop_from, is_unescaped, is_mark, is_ordinary}
+use Rattle.facet_json_token.proofs.DecodeSteps.{range-append}
+use Rattle.facet_json_reader.specs.Inner.Window.{is_stop_from, is_unescaped, is_mark, is_ordinary, ordinary-unescaped}
 use Rattle.facet_json_reader.specs.Values.{IsClosedAt}
 
 -- A run of bytes of a class is no longer than one of a wider class.
@@ -64,6 +66,17 @@ run-text least buffer start end is =
     let wider = run-wider (is_ordinary least) is_low (ordinary-low least) (drop start buffer) in
     run-IsUtf8 buffer start end (le-leb end (start + prefix_len is_low (drop start buffer)) (omega (arith, is, wider)))
 
+-- No more bytes are ordinary than may stand in a text unescaped.
+pub ordinary-wider : (least : ℕ) (bytes : List ℕ) → prefix_len (is_ordinary least) bytes ≤ prefix_len (is_unescaped least) bytes
+ordinary-wider least bytes = run-wider (is_ordinary least) (is_unescaped least) (ordinary-unescaped least) bytes
+
+-- A run of ordinary bytes before UTF-8 is UTF-8 with it.
+pub ordinary-before : (least : ℕ) (buffer : List ℕ) (start from finish : ℕ) →
+    from ≡ start + prefix_len (is_ordinary least) (drop start buffer) → from ≤ finish → IsUtf8 (slice_range buffer from finish) → IsUtf8 (slice_range buffer start finish)
+ordinary-before least buffer start from finish is ordered rest =
+    rw (range-append buffer start from finish (omega (arith, is)) ordered)
+    (IsUtf8-append (slice_range buffer start from) (slice_range buffer from finish) (run-text least buffer start from is) rest)
+
 -- The string of a quote and the quote that ends the run of plain bytes after it holds no escape.
 text-cut : (mode : Mode) (buffer : List ℕ) (at end : ℕ) → slice_get buffer at ≡ Some quote → slice_get buffer end ≡ Some quote →
     end ≡ (at + 1) + prefix_len is_plain (drop (at + 1) buffer) →
@@ -104,3 +117,10 @@ module _ (least : ℕ) (p : ℕ → Bool) (unescaped : (b : ℕ) → p b ≡ tru
     ordered = omega (arith, run);
     within = omega (arith, slice_get_within buffer finish quote closes);
   }
+
+-- Ordinary bytes up to a quote are the text of the string that it closes.
+pub ordinary-IsClosedAt : (least : ℕ) (buffer : List ℕ) (at finish : ℕ) →
+    finish ≡ (at + 1) + prefix_len (is_ordinary least) (drop (at + 1) buffer) →
+    slice_get buffer finish ≡ Some quote → slice_get buffer at ≡ Some quote → IsClosedAt least buffer at finish
+ordinary-IsClosedAt least buffer at finish run closes opens =
+    run-IsClosedAt least (is_ordinary least) (ordinary-unescaped least) buffer at finish run closes opens

@@ -1,17 +1,18 @@
 //! Texts without an escape, from their bytes, thirty-two at a time.
 
-ghost use Rattle.std.specs.Prelude.{◌≡◌, ◌<◌, ◌+◌, ℕ, Bool, true, not, length, Some, slice_get, slice_range, IfSome, IsUtf8, ◌≤◌, drop};
+ghost use Rattle.std.specs.Prelude.{◌≡◌, ◌<◌, ◌+◌, ℕ, Bool, not, length, Some, slice_get, slice_range, IfSome, IsUtf8, ◌≤◌, drop};
 ghost use Rattle.std.specs.Prelude.{map};
 ghost use Rattle.facet_format.specs.Bytes.{quote, space};
 ghost use Rattle.facet_json_reader.specs.PlaceViews.{language_of, least_of};
 ghost use Rattle.facet_json_reader.specs.Values.{AreUnescaped, IsClosedAt, IsPlainText};
 ghost use Rattle.std.specs.List.{prefix_len};
 ghost use Rattle.std.specs.Simd.Lanes.{mask_l};
-ghost use Rattle.facet_json_reader.specs.Inner.Window.{is_stop_from, is_unescaped, is_mark, ordinary-unescaped};
+ghost use Rattle.facet_json_reader.specs.Inner.Window.{is_stop_from, is_unescaped, is_mark, is_ordinary};
 
 use crate::language::Language;
-use facet_json_token::{Trust, plain_text, plain_text_unchecked, quoted_text};
+use facet_json_token::{Trust, plain_text_unchecked, quoted_text};
 use std::simd::prelude::*;
+use std::str;
 
 /// The text of the string whose quote is at `at`, where it holds no escape and the language allows it, and the offset of the quote
 /// that closes it.
@@ -71,21 +72,34 @@ fn checked_text_at<'de>(input: &'de [u8], at: usize, least: u8) -> Option<(usize
     ensures unescaped { IfSome result (λ r. AreUnescaped least (slice_range input.now (at + 1) r.0)) }
     ensures within { IfSome result (λ r. (at < r.0) × (r.0 < length input.now)) }
 {
-    match closing_quote::<Ordinary>(input, at, least) {
-        Some(end) => Some((end, plain_text_unchecked(input, at + 1, end))),
-        None => other_text_at(input, at, least),
+    let end = run_end::<Ordinary>(input, at + 1, least);
+    match input.get(end) {
+        Some(b'"') => Some((end, plain_text_unchecked(input, at + 1, end))),
+        _ => other_text_at(input, at, end, least),
     }
 }
 
-/// The text of such a string in which a byte is no ASCII: its end is found first, and then it is checked.
+/// The text of such a string whose ordinary bytes end at `from`. Where a byte that is no ASCII ends them, the text's end is sought, and
+/// then it is checked, from there on. Another byte, as the backslash of an escape, tells at once that there is no such text.
 #[inline(never)]
-fn other_text_at<'de>(input: &'de [u8], at: usize, least: u8) -> Option<(usize, &'de str)>
-    requires { slice_get input.now at ≡ Some quote }
+fn other_text_at<'de>(
+    input: &'de [u8],
+    at: usize,
+    from: usize,
+    least: u8,
+) -> Option<(usize, &'de str)>
+    requires here { slice_get input.now at ≡ Some quote }
+    requires ordinary { from ≡ (at + 1) + prefix_len (is_ordinary least) (drop (at + 1) input.now) }
     ensures { IfSome result (λ r. IsClosedAt least input.now at r.0 × IsPlainText input.now at r.0 r.1.now) }
 {
-    let end = closing_quote::<Unescaped>(input, at, least)?;
-    let text = plain_text(input, at + 1, end)?;
-    Some((end, text))
+    let Some(0x80..) = input.get(from) else {
+        return None;
+    };
+    let end = closing_quote(input, at, from, least)?;
+    match str::from_utf8(&input[from..end]) {
+        Ok(_) => Some((end, plain_text_unchecked(input, at + 1, end))),
+        Err(_) => None,
+    }
 }
 
 /// As `checked_text_at`, of an input that is UTF-8: nothing is checked.
@@ -97,20 +111,23 @@ fn quoted_text_at<'de>(input: &'de [u8], at: usize, least: u8) -> Option<(usize,
     ensures unescaped { IfSome result (λ r. AreUnescaped least (slice_range input.now (at + 1) r.0)) }
     ensures within { IfSome result (λ r. (at < r.0) × (r.0 < length input.now)) }
 {
-    match closing_quote::<Unescaped>(input, at, least) {
+    match closing_quote(input, at, at + 1, least) {
         Some(end) => Some((end, quoted_text(input, at + 1, end))),
         None => None,
     }
 }
 
-/// The offset of the quote that closes the string whose quote is at `at`, where no other byte ends the run of its text before.
+/// The offset of the quote that closes the string whose quote is at `at`, where no other byte ends the run of its text before. It is
+/// sought from `from` on, a place within that run.
 #[inline(always)]
-fn closing_quote<E: Ends>(input: &[u8], at: usize, least: u8) -> Option<usize>
+fn closing_quote(input: &[u8], at: usize, from: usize, least: u8) -> Option<usize>
     requires here { slice_get input.now at ≡ Some quote }
+    requires ahead { at < from }
+    requires passed { from ≤ (at + 1) + prefix_len (is_unescaped least) (drop (at + 1) input.now) }
     ensures closed { IfSome result (λ end. IsClosedAt least input.now at end) }
-    ensures run { IfSome result (λ end. end ≡ (at + 1) + prefix_len (λ b. not (E.ends least b)) (drop (at + 1) input.now)) }
+    ensures after { IfSome result (λ end. from ≤ end) }
 {
-    let end = run_end::<E>(input, at + 1, least);
+    let end = run_end::<Unescaped>(input, from, least);
     match input.get(end) {
         Some(b'"') => Some(end),
         _ => None,
@@ -129,9 +146,6 @@ trait Ends {
     /// Whether a byte is one of them.
     fn stops_at(byte: u8, least: u8) -> bool
         ensures { result ≡ ends least byte };
-
-    /// Any other byte may stand in a text unescaped.
-    ghost unescaped: { (least b : ℕ) → not (ends least b) ≡ true → is_unescaped least b ≡ true };
 }
 
 /// Bytes that may stand in a text unescaped: any other ends their run.
@@ -139,8 +153,6 @@ struct Unescaped;
 
 impl Ends for Unescaped {
     ghost ends = { is_stop_from };
-
-    ghost unescaped = { λ least b e. e };
 
     #[inline(always)]
     fn stops(window: u8x32, least: u8) -> u64 {
@@ -159,8 +171,6 @@ struct Ordinary;
 
 impl Ends for Ordinary {
     ghost ends = { is_mark };
-
-    ghost unescaped = { ordinary-unescaped };
 
     #[inline(always)]
     fn stops(window: u8x32, least: u8) -> u64 {
