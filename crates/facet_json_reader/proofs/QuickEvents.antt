@@ -1,6 +1,6 @@
 -- What the token at an offset gives where the reader reaches it.
 use Rattle.std.proofs.Common.{◌≡◌, ℕ, ◌+◌, ◌-◌, ◌≤◌, ◌<◌, Bool, true, false, List, [], ◌∷◌, Option, Some, None, length, drop, slice_get, refl, sym, ap, ap₂, ◌∙◌, arith}
-use Rattle.std.specs.Prelude.{codes, slice_range, IfSome, MatchOption}
+use Rattle.std.specs.Prelude.{codes, IfSome}
 use Rattle.std.specs.Option.{option_map}
 use Rattle.facet_json_reader.specs.declared.reader.Reader.{Reader}
 use Rattle.facet_format.specs.declared.span.Span.{Span as RustSpan}
@@ -11,10 +11,8 @@ use Rattle.facet_format.specs.Bytes as mark_byte
 use Rattle.facet_format.specs.Event.{ContainerKind, EventKind, Event, Passed, Scalar, borrowed}
 use Rattle.facet_format.specs.Event as event
 use Rattle.facet_format.specs.Span.{Span, stop, span_at}
-use Rattle.facet_format.specs.Views.{span_of, event_kind_of}
-use Rattle.facet_format.specs.declared.event.ParseEventKind.{ParseEventKind}
-use Rattle.facet_format.specs.Number.{Hint, float}
-use Rattle.facet_format.specs.NumberValue.{number, decimal}
+use Rattle.facet_format.specs.Views.{span_of}
+use Rattle.facet_format.specs.Number.{Hint}
 use Rattle.facet_format.specs.NumberParts.{parts, parts_len, parts_hint, is_bare}
 use Rattle.facet_json_token.specs.Gap.{Mode, plain}
 use Rattle.facet_json_token.specs.Cut.{cut_here, past_gap, common_len, token_at, punctuation, start_of, opens_number, cut_number}
@@ -35,8 +33,6 @@ use Rattle.facet_json_grammar.specs.Walk.{event_at, scalar_event, key_event, sca
 use Rattle.facet_json_grammar.specs.Node.{is_scalar}
 use Rattle.facet_json_grammar.proofs.WalkComes.{object_here, array_here, TakesValue, at_root, of_member, of_list, of_next_item, follows, reads-turn, turn-plain, turn-meant, scalar_here}
 use Rattle.facet_json_reader.proofs.TokensThere.{mark-cut, tokens_in-past_gap, word-cut}
-use Rattle.facet_json_reader.proofs.ShortNumbers.{decimal-there}
-use Rattle.facet_json_reader.specs.Inner.Short.{IsDecimalThere}
 use Rattle.facet_json_reader.proofs.TurnsAtPlaces.{is_mark, mark-plain}
 use Rattle.facet_json_reader.specs.PlaceViews.{opening_bracket, closing_bracket, opening_token, closing_token, opening_event}
 use Rattle.facet_json_reader.specs.Values.{IsPlainText, IsScalarThere}
@@ -188,9 +184,9 @@ module _ (buffer : List ℕ) (language : Language) (r : Reader) (place : Place) 
   -- A bracket that opens a container gives its event, where there is memory for it.
   pub start-passes : (kind : RustContainerKind) (o : Option RustSpan) (t : Reader) → MayBeValue place → Reaches buffer language r place at →
       slice_get buffer at ≡ Some (opening_bracket kind) → IfSome o (λ s. span_of s ≡ span_at at 1) →
-      MatchOption o (t ≡ r) (λ s. Leaves r (opening_event kind) (span_at at 1) (span_at at 1) t) →
-      MatchOption o (t ≡ r) (λ s. PassesQuickly buffer language r (record { kind = opening_event kind; span = span_of s }) t)
-  start-passes kind None t may is here whole left = left
+      IfSome o (λ s. Leaves r (opening_event kind) (span_at at 1) (span_at at 1) t) →
+      IfSome o (λ s. PassesQuickly buffer language r (record { kind = opening_event kind; span = span_of s }) t)
+  start-passes kind None t may is here whole left = tt
   start-passes kind (Some s) t may is here whole left =
       bracket-passes (opening_token kind) (opening_event kind) (span_of s) t is (opening-cut (gaps language) buffer at kind here) (opens-here place kind may) whole left
 
@@ -214,20 +210,6 @@ module _ (buffer : List ℕ) (language : Language) (r : Reader) (place : Place) 
         event = refl;
         new = passed.new;
       })
-
-  -- A decimal gives its event, where it has a value.
-  pub decimal-passes : (len : ℕ) (o : Option (ParseEventKind × RustSpan)) (t : Reader) → MayBeValue place → Reaches buffer language r place at →
-      IsDecimalThere buffer at len → Allows language buffer (record { kind = token.number at (at + len) float; span = span_at at len }) →
-      (let text = slice_range buffer at (at + len) in IfSome o (λ x. event_kind_of x.0 ≡ event.scalar (event.decimal (borrowed text)))) →
-      IfSome o (λ x. span_of x.1 ≡ span_at at len) →
-      (let text = slice_range buffer at (at + len) in IfSome o (λ x. number text float ≡ Some (decimal text))) →
-      MatchOption o (t ≡ r) (λ x. Leaves r (event.scalar (event.decimal (borrowed (slice_range buffer at (at + len))))) (span_at at len) (span_at at len) t) →
-      MatchOption o (t ≡ r) (λ x. PassesQuickly buffer language r (record { kind = event_kind_of x.0; span = span_of x.1 }) t)
-  unfolding decimal-there
-  decimal-passes len None t may is there allowed kind span means left = left
-  decimal-passes len (Some x) t may is there allowed kind span means left =
-      rw (kind, span) (scalar-passes len (event.decimal (borrowed (slice_range buffer at (at + len)))) (span_at at len) t may is refl
-      (decimal-there buffer at len there means) allowed left)
 
   -- A key and its colon give their event.
   pub key-passes : (finish mark : ℕ) (name : List ℕ) (s : Span) (t : Reader) →

@@ -1,18 +1,18 @@
 //! Any event as what is wanted: a bracket, a text or a key without an escape, a number that allocates nothing, a literal.
 
-ghost use Rattle.std.specs.Prelude.{◌≡◌, ◌≤◌, ◌+◌, ℕ, List, Some, true, length, slice_get, slice_range, IfSome, IsUtf8, MatchOption};
+ghost use Rattle.std.specs.Prelude.{◌≡◌, ◌≤◌, ◌+◌, ℕ, List, Some, length, slice_get, IsUtf8, MatchOption};
 ghost use Rattle.facet_format.specs.Bytes.{quote};
-ghost use Rattle.facet_format.specs.Event.{scalar, decimal, borrowed};
 ghost use Rattle.facet_format.specs.Number.{float};
-ghost use Rattle.facet_format.specs.NumberParts.{is_number};
-ghost use Rattle.facet_format.specs.NumberValue.{number as spec_number, decimal as spec_decimal};
 ghost use Rattle.facet_format.specs.Span.{span_at, stop};
 ghost use Rattle.facet_format.specs.Views.{span_of, event_kind_of};
 ghost use Rattle.facet_json_token.specs.Cut.{start_of, opens_number};
+ghost use Rattle.facet_json_token.specs.Token.{number};
 ghost use Rattle.facet_json_grammar.specs.Language.{Language as SpecLanguage};
 ghost use Rattle.facet_json_grammar.specs.Place.{Place as SpecPlace};
+ghost use Rattle.facet_json_grammar.specs.StrictTokens.{Allows};
 ghost use Rattle.facet_json_reader.specs.PlaceViews.{language_of, place_of, opening_bracket, closing_bracket};
-ghost use Rattle.facet_json_reader.specs.Inner.Quick.{MayBeValue, Reaches, Leaves, PassesQuickly};
+ghost use Rattle.facet_json_reader.specs.Inner.Quick.{MayBeValue, Reaches, PassesQuickly};
+ghost use Rattle.facet_json_reader.specs.Inner.Short.{IsDecimalThere};
 
 use crate::language::Language;
 use crate::number::{decimal_at, short_number_in};
@@ -76,8 +76,7 @@ fn string_event<'de>(
             Some((ParseEventKind::FieldKey(key), span))
         }
         Turn::Scalar => {
-            let span = Span::new(ahead.at, end + 1 - ahead.at);
-            reader.move_past(span);
+            let span = reader.pass_scalar(ahead.at, end + 1 - ahead.at);
             Some((
                 ParseEventKind::Scalar(ScalarValue::Str(CowStr::Borrowed(text))),
                 span,
@@ -185,8 +184,7 @@ fn number_event<'de>(
     let (len, whole) = short_number_in(input, language, at, first)?;
     match whole {
         Some(whole) => {
-            let span = Span::new(at, len);
-            reader.move_past(span);
+            let span = reader.pass_scalar(at, len);
             Some((ParseEventKind::Scalar(whole.scalar()), span))
         }
         None => decimal_event(reader, input, at, len),
@@ -201,15 +199,11 @@ fn decimal_event<'de>(
     at: usize,
     len: usize,
 ) -> Option<Told<'de>>
-    requires within { at + len ≤ length input.now }
-    requires number { is_number (slice_range input.now at (at + len)) float ≡ true }
-    ensures kind { IfSome result (λ r. event_kind_of r.0 ≡ scalar (decimal (borrowed (slice_range input.now at (at + len))))) }
-    ensures span { IfSome result (λ r. span_of r.1 ≡ span_at at len) }
-    ensures leaves { MatchOption result (reader.new ≡ reader.old)
-        (λ _. Leaves reader.old (scalar (decimal (borrowed (slice_range input.now at (at + len))))) (span_at at len)
-        (span_at at len) reader.new) }
-    ensures number { let text = slice_range input.now at (at + len)
-        in IfSome result (λ _. spec_number text float ≡ Some (spec_decimal text)) }
+    requires { IsDecimalThere input.now at len }
+    ensures { (language : SpecLanguage) (place : SpecPlace)
+        → Allows language input.now (record { kind = number at (at + len) float; span = span_at at len }) → MayBeValue place
+        → Reaches input.now language reader.old place at → MatchOption result (reader.new ≡ reader.old)
+        (λ r. PassesQuickly input.now language reader.old (record { kind = event_kind_of r.0; span = span_of r.1 }) reader.new) }
 {
     let event = decimal_event_out_of_line(reader, input, at, len);
     event
@@ -223,18 +217,13 @@ fn decimal_event_out_of_line<'de>(
     at: usize,
     len: usize,
 ) -> Option<Told<'de>>
-    requires within { at + len ≤ length input.now }
-    requires number { is_number (slice_range input.now at (at + len)) float ≡ true }
-    ensures kind { IfSome result (λ r. event_kind_of r.0 ≡ scalar (decimal (borrowed (slice_range input.now at (at + len))))) }
-    ensures span { IfSome result (λ r. span_of r.1 ≡ span_at at len) }
-    ensures leaves { MatchOption result (reader.new ≡ reader.old)
-        (λ _. Leaves reader.old (scalar (decimal (borrowed (slice_range input.now at (at + len))))) (span_at at len)
-        (span_at at len) reader.new) }
-    ensures number { let text = slice_range input.now at (at + len)
-        in IfSome result (λ _. spec_number text float ≡ Some (spec_decimal text)) }
+    requires { IsDecimalThere input.now at len }
+    ensures { (language : SpecLanguage) (place : SpecPlace)
+        → Allows language input.now (record { kind = number at (at + len) float; span = span_at at len }) → MayBeValue place
+        → Reaches input.now language reader.old place at → MatchOption result (reader.new ≡ reader.old)
+        (λ r. PassesQuickly input.now language reader.old (record { kind = event_kind_of r.0; span = span_of r.1 }) reader.new) }
 {
     let decimal = decimal_at(input, at, len)?;
-    let span = Span::new(at, len);
-    reader.move_past(span);
+    let span = reader.pass_scalar(at, len);
     Some((ParseEventKind::Scalar(ScalarValue::Decimal(decimal)), span))
 }

@@ -3,18 +3,19 @@
 ghost use Rattle.std.specs.Prelude.{◌≡◌, ◌+◌, ◌≤◌, true, false, Some, length, drop, slice_get, slice_range, IfSome, OnSome, ℕ, ◌<◌, ◌^◌};
 ghost use Rattle.std.specs.Prelude.{take, ◌≢◌, ◌==◌, ◌||◌, pos, neg_ℤ};
 ghost use Rattle.facet_format.specs.Number.{AreDigits, float};
-ghost use Rattle.facet_format.specs.NumberValue.{digits_value, number as spec_number, decimal as spec_decimal};
-ghost use Rattle.facet_format.specs.Event.{decimal, borrowed};
-ghost use Rattle.facet_format.specs.NumberParts.{parts as number_parts, parts_len, is_number};
+ghost use Rattle.facet_format.specs.NumberValue.{digits_value};
+ghost use Rattle.facet_format.specs.Event.{decimal};
+ghost use Rattle.facet_format.specs.NumberParts.{parts as number_parts, parts_len};
 ghost use Rattle.facet_format.specs.Views.{scalar_value_of};
 ghost use Rattle.facet_json_token.specs.Cut.{start_of, opens_number};
 ghost use Rattle.facet_json_token.specs.Token.{Kind};
+ghost use Rattle.facet_json_token.specs.Token as spec_token;
 ghost use Rattle.facet_json_token.specs.NumberViews.{number_of};
 ghost use Rattle.facet_json_grammar.specs.Meaning.{tree_of_number};
 ghost use Rattle.facet_json_grammar.specs.Walk.{scalar_by};
 ghost use Rattle.facet_json_token.specs.RfcNumber.{SomeDigits, IsRfcNumber};
 ghost use Rattle.facet_json_reader.specs.Inner.Whole.{digits_from, OpensNumber, IsWholeNumber, whole_scalar};
-ghost use Rattle.facet_json_reader.specs.Inner.Short.{IsShortNumber, IsShortIn};
+ghost use Rattle.facet_json_reader.specs.Inner.Short.{IsDecimalThere, IsShortNumber, IsShortIn};
 ghost use Rattle.facet_json_reader.specs.Values.{IsScalarThere};
 ghost use Rattle.facet_format.specs.Span.{span_at};
 ghost use Rattle.facet_json_grammar.specs.StrictTokens.{Allows};
@@ -245,10 +246,9 @@ pub(crate) fn short_decimal_in<'de>(
 /// The decimal of so many bytes at `at`.
 #[inline(always)]
 pub(crate) fn decimal_at<'de>(input: &'de [u8], at: usize, len: usize) -> Option<Decimal<'de>>
-    requires within { at + len ≤ length input.now }
-    requires number { is_number (slice_range input.now at (at + len)) float ≡ true }
-    ensures { let text = slice_range input.now at (at + len) in IfSome result
-        (λ d. (d ≡ borrowed text) × (spec_number text float ≡ Some (spec_decimal text))) }
+    requires { IsDecimalThere input.now at len }
+    ensures { IfSome result
+        (λ d. (there : IsScalarThere input.now at len (decimal d)) × (there.kind ≡ spec_token.number at (at + len) float)) }
 {
     measured_decimal(&input[at..at + len])
 }

@@ -1,16 +1,18 @@
 //! One step of the reader, where a few bytes decide it: where the next token begins, and each way past it. Where they do not decide,
 //! nothing changes, and the tokens decide, in `reader`.
 
-ghost use Rattle.std.specs.Prelude.{◌≡◌, ◌≤◌, ◌<◌, ◌+◌, ℕ, List, Some, false, true, length, slice_get, slice_range, IfSome, MatchOption};
+ghost use Rattle.std.specs.Prelude.{◌≡◌, ◌≤◌, ◌<◌, ◌+◌, ℕ, List, Some, false, true, length, slice_get, slice_range, IfSome, IfNone};
 ghost use Rattle.facet_format.specs.Event.{Scalar, Text, scalar, field_key, borrowed};
 ghost use Rattle.facet_format.specs.Span.{Span as SpecSpan, stop, span_at};
 ghost use Rattle.facet_format.specs.Views.{span_of};
+ghost use Rattle.facet_json_token.specs.Cut.{start_of, opens_number};
 ghost use Rattle.facet_json_token.specs.Token.{string};
 ghost use Rattle.facet_json_grammar.specs.Language.{Language as SpecLanguage};
 ghost use Rattle.facet_json_grammar.specs.Place.{Place as SpecPlace, names, place_turn};
+ghost use Rattle.facet_json_grammar.specs.StrictTokens.{Allows};
 ghost use Rattle.facet_json_reader.specs.PlaceViews.{language_of, least_of, place_of, opening_event, closing_event, closing_token};
 ghost use Rattle.facet_json_reader.specs.PlaceViews.{opening_bracket, closing_bracket};
-ghost use Rattle.facet_json_reader.specs.Values.{AreUnescaped, IsPlainText};
+ghost use Rattle.facet_json_reader.specs.Values.{AreUnescaped, IsPlainText, IsScalarThere};
 ghost use Rattle.facet_json_reader.specs.Inner.Quick.{MayBeValue, Reaches, IsWord, Leaves, PassesQuickly};
 ghost use Rattle.facet_json_reader.specs.Inner.Sorts.{kind_by};
 
@@ -100,20 +102,49 @@ impl Reader {
         Some((ahead.at, ahead.first))
     }
 
+    /// Where the next number begins and its first byte, where a value may stand.
+    #[inline(always)]
+    pub(crate) fn number_start(&self, input: &[u8], language: Language) -> Option<(usize, u8)>
+        requires within { stop (span_of self.now.last) ≤ length input.now }
+        ensures reaches { IfSome result
+            (λ r. (place : SpecPlace) × MayBeValue place × Reaches input.now (language_of language) self.now place r.0) }
+        ensures here { IfSome result (λ r. slice_get input.now r.0 ≡ Some r.1) }
+        ensures number { IfSome result (λ r. start_of r.1 ≡ opens_number) }
+    {
+        let (at, first) = self.value_start(input, language)?;
+        match first {
+            b'-' | b'0'..=b'9' => Some((at, first)),
+            _ => None,
+        }
+    }
+
+    /// Passes the scalar of so many bytes that stands there.
+    #[inline(always)]
+    pub(crate) fn pass_scalar(&mut self, at: usize, len: usize) -> Span
+        ensures { (buffer : List ℕ) (language : SpecLanguage) (place : SpecPlace) (value : Scalar)
+            → (there : IsScalarThere buffer at len value)
+            → Allows language buffer (record { kind = there.kind; span = span_at at len }) → MayBeValue place
+            → Reaches buffer language self.old place at
+            → PassesQuickly buffer language self.old (record { kind = scalar value; span = span_of result }) self.new }
+    {
+        let span = Span::new(at, len);
+        self.move_past(span);
+        span
+    }
+
     /// Passes the literal of these letters.
     #[inline(always)]
     pub(crate) fn pass_word(&mut self, input: &[u8], at: usize, word: &[u8]) -> Option<Span>
         requires { at ≤ length input.now }
-        ensures { (language : SpecLanguage) (place : SpecPlace) (first : ℕ) (value : Scalar) → IsWord first word.now value
+        ensures same { IfNone result (self.new ≡ self.old) }
+        ensures passes { (language : SpecLanguage) (place : SpecPlace) (first : ℕ) (value : Scalar) → IsWord first word.now value
             → slice_get input.now at ≡ Some first → MayBeValue place → Reaches input.now language self.old place at
-            → MatchOption result (self.new ≡ self.old)
+            → IfSome result
             (λ s. PassesQuickly input.now language self.old (record { kind = scalar value; span = span_of s }) self.new) }
     {
         let len = word.len();
         if common_len(input, at, word) == len {
-            let span = Span::new(at, len);
-            self.move_past(span);
-            Some(span)
+            Some(self.pass_scalar(at, len))
         } else {
             None
         }
@@ -122,8 +153,9 @@ impl Reader {
     /// Passes the bracket that closes a container of this kind, where one stands.
     #[inline(always)]
     pub(crate) fn pass_closing(&mut self, kind: ContainerKind, ahead: Ahead) -> Option<Span>
-        ensures { (buffer : List ℕ) (language : SpecLanguage) → slice_get buffer ahead.at ≡ Some (closing_bracket kind)
-            → Reaches buffer language self.old (place_of ahead.place) ahead.at → MatchOption result (self.new ≡ self.old)
+        ensures same { IfNone result (self.new ≡ self.old) }
+        ensures passes { (buffer : List ℕ) (language : SpecLanguage) → slice_get buffer ahead.at ≡ Some (closing_bracket kind)
+            → Reaches buffer language self.old (place_of ahead.place) ahead.at → IfSome result
             (λ s. PassesQuickly buffer language self.old (record { kind = closing_event kind; span = span_of s }) self.new) }
     {
         match ahead.place.turn_by(closing_sort(kind)) {
@@ -141,8 +173,8 @@ impl Reader {
         kind: ContainerKind,
     ) -> Option<Span>
         requires within { stop (span_of self.old.last) ≤ length input.now }
-        ensures { MatchOption result (self.new ≡ self.old)
-            (λ s. PassesQuickly input.now (language_of language) self.old
+        ensures same { IfNone result (self.new ≡ self.old) }
+        ensures passes { IfSome result (λ s. PassesQuickly input.now (language_of language) self.old
             (record { kind = opening_event kind; span = span_of s }) self.new) }
     {
         let (at, first) = self.value_start(input, language)?;
@@ -155,9 +187,9 @@ impl Reader {
     /// Passes the bracket that opens a container of this kind, which stands there, where there is memory for it.
     #[inline(always)]
     pub(crate) fn pass_opening(&mut self, kind: ContainerKind, at: usize) -> Option<Span>
-        ensures { (buffer : List ℕ) (language : SpecLanguage) (place : SpecPlace) → MayBeValue place
-            → slice_get buffer at ≡ Some (opening_bracket kind) → Reaches buffer language self.old place at
-            → MatchOption result (self.new ≡ self.old)
+        ensures same { IfNone result (self.new ≡ self.old) }
+        ensures passes { (buffer : List ℕ) (language : SpecLanguage) (place : SpecPlace) → MayBeValue place
+            → slice_get buffer at ≡ Some (opening_bracket kind) → Reaches buffer language self.old place at → IfSome result
             (λ s. PassesQuickly buffer language self.old (record { kind = opening_event kind; span = span_of s }) self.new) }
     {
         self.move_past_start(kind, at)
@@ -174,9 +206,10 @@ impl Reader {
     ) -> Option<Span>
         requires within { (at < end) × (end < length input.now) }
         requires unescaped { AreUnescaped (least_of (language_of language)) (slice_range input.now (at + 1) end) }
-        ensures { (place : SpecPlace) (name : List ℕ) → place_turn place (string (at + 1) end false) ≡ names
+        ensures same { IfNone result (self.new ≡ self.old) }
+        ensures passes { (place : SpecPlace) (name : List ℕ) → place_turn place (string (at + 1) end false) ≡ names
             → IsPlainText input.now at end name
-            → Reaches input.now (language_of language) self.old place at → MatchOption result (self.new ≡ self.old)
+            → Reaches input.now (language_of language) self.old place at → IfSome result
             (λ s. PassesQuickly input.now (language_of language) self.old
             (record { kind = field_key (borrowed name); span = span_of s }) self.new) }
     {
@@ -204,9 +237,9 @@ impl Reader {
     /// Moves past a bracket that opens a container, where there is memory for it.
     #[inline(always)]
     fn move_past_start(&mut self, kind: ContainerKind, at: usize) -> Option<Span>
+        ensures same { IfNone result (self.new ≡ self.old) }
         ensures span { IfSome result (λ s. span_of s ≡ span_at at 1) }
-        ensures leaves { MatchOption result (self.new ≡ self.old)
-            (λ _. Leaves self.old (opening_event kind) (span_at at 1) (span_at at 1) self.new) }
+        ensures leaves { IfSome result (λ _. Leaves self.old (opening_event kind) (span_at at 1) (span_at at 1) self.new) }
     {
         match self.contexts.push(kind) {
             Ok(()) => {
@@ -229,7 +262,7 @@ impl Reader {
 
     /// Moves past a scalar that takes these bytes.
     #[inline(always)]
-    pub(crate) fn move_past(&mut self, span: Span)
+    fn move_past(&mut self, span: Span)
         ensures { (value : Scalar) → Leaves self.old (scalar value) (span_of span) (span_of span) self.new }
     {
         self.stage = Stage::after_value(&self.contexts);

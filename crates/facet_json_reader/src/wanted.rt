@@ -52,8 +52,7 @@ impl<'de> Wanted<'de> for &'de str {
             return None;
         }
         let (end, text) = text_at(input, language, trust, at)?;
-        let span = Span::new(at, end + 1 - at);
-        reader.move_past(span);
+        let span = reader.pass_scalar(at, end + 1 - at);
         Some((text, span))
     }
 }
@@ -100,16 +99,10 @@ impl<'de> Wanted<'de> for Whole {
         language: Language,
         _trust: Trust,
     ) -> Option<(Whole, Span)> {
-        let (at, first) = reader.value_start(input, language)?;
-        match first {
-            b'-' | b'0'..=b'9' => {
-                let (len, whole) = short_whole_in(input, language, at, first)?;
-                let span = Span::new(at, len);
-                reader.move_past(span);
-                Some((whole, span))
-            }
-            _ => None,
-        }
+        let (at, first) = reader.number_start(input, language)?;
+        let (len, whole) = short_whole_in(input, language, at, first)?;
+        let span = reader.pass_scalar(at, len);
+        Some((whole, span))
     }
 }
 
@@ -126,16 +119,10 @@ impl<'de> Wanted<'de> for Decimal<'de> {
         language: Language,
         _trust: Trust,
     ) -> Option<(Decimal<'de>, Span)> {
-        let (at, first) = reader.value_start(input, language)?;
-        match first {
-            b'-' | b'0'..=b'9' => {
-                let (len, decimal) = short_decimal_in(input, language, at, first)?;
-                let span = Span::new(at, len);
-                reader.move_past(span);
-                Some((decimal, span))
-            }
-            _ => None,
-        }
+        let (at, first) = reader.number_start(input, language)?;
+        let (len, decimal) = short_decimal_in(input, language, at, first)?;
+        let span = reader.pass_scalar(at, len);
+        Some((decimal, span))
     }
 }
 

@@ -1,5 +1,5 @@
 -- Numbers that allocate nothing: what is told of one is its value where it is whole, and that it is a decimal else.
-use Rattle.std.specs.Prelude.{◌≡◌, ◌+◌, ℕ, true, List, Option, Some, None, drop, slice_range}
+use Rattle.std.specs.Prelude.{◌≡◌, ◌+◌, ◌≤◌, ℕ, true, List, length, Option, Some, None, drop, slice_range}
 use Rattle.facet_format.specs.Number.{float}
 use Rattle.facet_format.specs.NumberParts.{is_number}
 use Rattle.facet_format.specs.Span.{span_at}
@@ -16,6 +16,7 @@ use Rattle.facet_json_reader.specs.Values.{IsScalarThere}
 pub record IsDecimalThere (buffer : List ℕ) (at len : ℕ) : Type 0 where
   pub cut : (mode : Mode) → cut_here mode at (drop at buffer) ≡ token_at (number at (at + len) float) at len
   pub decimal : is_number (slice_range buffer at (at + len)) float ≡ true
+  pub within : at + len ≤ length buffer
 
 -- At this offset stands a number of this length, of which that is told.
 abbrev pub IsShortNumber : List ℕ → ℕ → ℕ → Option Whole → Type 0

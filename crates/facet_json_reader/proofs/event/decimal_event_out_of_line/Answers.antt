@@ -1,9 +1,9 @@
--- The bytes are those of the token.
-use Rattle.std.proofs.Common.{◌+◌, slice_range}
-use Rattle.facet_format.specs.Event.{decimal, borrowed}
+-- The decimal gives its event.
+use Rattle.facet_format.specs.Event.{decimal}
 use Rattle.facet_json_reader.proofs.event.decimal_event_out_of_line.Goals as goal
 
-pub returns-clause-leaves : goal.returns-clause-leaves
-returns-clause-leaves c =
-    rw (c.new-span.ensures.offset, c.new-span.ensures.len) at
-    (c.move_past.ensures (decimal (borrowed (slice_range c.args.input.now c.args.at (c.args.at + c.args.len)))))
+pub returns : goal.returns
+returns c =
+    λ language place allowed may reached.
+    let d = c.in_ok-decimal.ensures in
+    c.pass_scalar-span.ensures c.args.input.now language place (decimal c.in_ok-decimal.decimal) d.0 (rw d.1 allowed) may reached

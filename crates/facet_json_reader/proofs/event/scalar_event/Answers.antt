@@ -9,38 +9,23 @@ use Rattle.facet_json_reader.proofs.event.scalar_event.Goals as goal
 pub number_event-requires-clause-number : goal.number_event-requires-clause-number
 number_event-requires-clause-number c = start_of-number_range c.args.first (grind arith) (grind arith) (grind arith) (grind arith)
 
-pub returns-in_err-span-in-116 : goal.returns-in_err-span-in-116
-returns-in_err-span-in-116 c =
-    λ place may reached.
-    rw c.from_residual.ensures
-    (c.in_err-span-in-116.ensures (language_of c.args.language) place byte.lower_t _ true_stands (c.requires ∙ ap Some c.in-116.is) may reached)
-
 pub returns-in_ok-span-in-116 : goal.returns-in_ok-span-in-116
 returns-in_ok-span-in-116 c =
     λ place may reached.
-    c.in_ok-span-in-116.ensures (language_of c.args.language) place byte.lower_t _ true_stands (c.requires ∙ ap Some c.in-116.is) may reached
-
-pub returns-in_err-span-in-102 : goal.returns-in_err-span-in-102
-returns-in_err-span-in-102 c =
-    λ place may reached.
-    rw c.from_residual-in_err-span-in-102.ensures
-    (c.in_err-span-in-102.ensures (language_of c.args.language) place byte.lower_f _ false_stands (c.requires ∙ ap Some c.in-102.is) may reached)
+    c.in_ok-span-in-116.ensures.passes (language_of c.args.language) place byte.lower_t _ true_stands
+    (c.requires ∙ ap Some c.in-116.is) may reached
 
 pub returns-in_ok-span-in-102 : goal.returns-in_ok-span-in-102
 returns-in_ok-span-in-102 c =
     λ place may reached.
-    c.in_ok-span-in-102.ensures (language_of c.args.language) place byte.lower_f _ false_stands (c.requires ∙ ap Some c.in-102.is) may reached
-
-pub returns-in_err-span-in-110 : goal.returns-in_err-span-in-110
-returns-in_err-span-in-110 c =
-    λ place may reached.
-    rw c.from_residual-in_err-span-in-110.ensures
-    (c.in_err-span-in-110.ensures (language_of c.args.language) place byte.lower_n _ null_stands (c.requires ∙ ap Some c.in-110.is) may reached)
+    c.in_ok-span-in-102.ensures.passes (language_of c.args.language) place byte.lower_f _ false_stands
+    (c.requires ∙ ap Some c.in-102.is) may reached
 
 pub returns-in_ok-span-in-110 : goal.returns-in_ok-span-in-110
 returns-in_ok-span-in-110 c =
     λ place may reached.
-    c.in_ok-span-in-110.ensures (language_of c.args.language) place byte.lower_n _ null_stands (c.requires ∙ ap Some c.in-110.is) may reached
+    c.in_ok-span-in-110.ensures.passes (language_of c.args.language) place byte.lower_n _ null_stands
+    (c.requires ∙ ap Some c.in-110.is) may reached
 
 pub returns-in-45 : goal.returns-in-45
 returns-in-45 c = c.number_event.ensures

@@ -1,27 +1,20 @@
 -- Where a value may stand a string is a text, and where a key may stand a key.
-use Rattle.std.proofs.Common.{false, ◌+◌, refl}
+use Rattle.std.proofs.Common.{false, ◌+◌}
 use Rattle.facet_format.specs.Event.{text, borrowed}
 use Rattle.facet_json_reader.specs.declared.place.Turn.TheVariants as turns
 use Rattle.facet_json_reader.specs.PlaceViews.{language_of, place_of}
 use Rattle.facet_json_reader.proofs.ValuesThere.{text-there, text_there-kind}
 use Rattle.facet_json_reader.proofs.AllowedTexts.{unescaped-allowed}
-use Rattle.facet_json_reader.proofs.QuickEvents.{scalar-passes}
 use Rattle.facet_json_reader.proofs.SortsOfTokens.{text-turn, text-may_be}
 use Rattle.facet_json_reader.proofs.event.string_event.Goals as goal
-
-pub returns-in_err-span-in-Names : goal.returns-in_err-span-in-Names
-returns-in_err-span-in-Names c =
-    let t = c.in_ok-end in
-    let at = c.args.ahead.at in
-    let key = text-turn c.args.ahead.place turns.Names (at + 1) t.end false c.in-Names.ensures.turn in
-    rw c.from_residual-in_err-span-in-Names.ensures (c.in_err-span-in-Names.ensures (place_of c.args.ahead.place) t.text.now key t.ensures.text c.requires.reaches)
 
 pub returns-in_ok-span-in-Names : goal.returns-in_ok-span-in-Names
 returns-in_ok-span-in-Names c =
     let t = c.in_ok-end in
     let at = c.args.ahead.at in
     let key = text-turn c.args.ahead.place turns.Names (at + 1) t.end false c.in-Names.ensures.turn in
-    rw c.new-key.ensures.name (c.in_ok-span-in-Names.ensures (place_of c.args.ahead.place) t.text.now key t.ensures.text c.requires.reaches)
+    rw c.new-key.ensures.name
+    (c.in_ok-span-in-Names.ensures.passes (place_of c.args.ahead.place) t.text.now key t.ensures.text c.requires.reaches)
 
 pub returns-in-Scalar : goal.returns-in-Scalar
 returns-in-Scalar c =
@@ -31,8 +24,6 @@ returns-in-Scalar c =
     let t = c.in_ok-end in
     let there = text-there input at t.end t.text.now t.ensures.text in
     let is = text_there-kind input at t.end t.text.now t.ensures.text in
-    let value = text (borrowed t.text.now) in
     let may = text-may_be c.args.ahead.place c.in-Scalar.ensures.turn in
-    rw (c.new-span.ensures.offset, c.new-span.ensures.len)
-    (scalar-passes input language c.args.reader.now (place_of c.args.ahead.place) at _ value _ c.move_past.new.self may c.requires.reaches refl there
-    (rw is (unescaped-allowed language input (at + 1) t.end t.ensures.unescaped _ false)) (rw (c.new-span.ensures.offset, c.new-span.ensures.len) at c.move_past.ensures value))
+    c.pass_scalar-span.ensures input language (place_of c.args.ahead.place) (text (borrowed t.text.now)) there
+    (rw is (unescaped-allowed language input (at + 1) t.end t.ensures.unescaped _ false)) may c.requires.reaches

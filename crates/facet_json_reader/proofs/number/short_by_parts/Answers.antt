@@ -29,7 +29,7 @@ returns-in-Float-clause-there c =
     start.here start.begins c.requires.parts c.len-len.ensures hint more in
     let room = slice_get_within c.args.input.now c.args.at start.first start.here in
     let fits = there-fits plain c.args.input.now c.args.at c.len-len.result _ (omega (arith, room)) (is plain) in
-    record { cut = is; decimal = fits.kind_fits.is_a_number }
+    record { cut = is; decimal = fits.kind_fits.is_a_number; within = omega (arith, fits.within) }
 
 pub returns-clause-there : goal.returns-clause-there
 returns-clause-there c =

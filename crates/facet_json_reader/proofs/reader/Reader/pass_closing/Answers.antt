@@ -6,8 +6,8 @@ use Rattle.facet_json_reader.proofs.QuickEvents.{bracket-passes, closing-cut}
 use Rattle.facet_json_reader.proofs.SortsOfTokens.{closes-own}
 use Rattle.facet_json_reader.proofs.reader.Reader.pass_closing.Goals as goal
 
-pub returns-in-Closes : goal.returns-in-Closes
-returns-in-Closes c =
+pub returns-in-Closes-clause-passes : goal.returns-in-Closes-clause-passes
+returns-in-Closes-clause-passes c =
     λ buffer language here reached.
     let kind = c.args.kind in
     let place = c.args.ahead.place in

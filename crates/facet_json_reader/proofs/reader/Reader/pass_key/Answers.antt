@@ -8,8 +8,8 @@ use Rattle.facet_json_reader.proofs.AllowedTexts.{unescaped-allowed}
 use Rattle.facet_json_reader.proofs.QuickEvents.{key-passes}
 use Rattle.facet_json_reader.proofs.reader.Reader.pass_key.Goals as goal
 
-pub returns-in-Some-eq58 : goal.returns-in-Some-eq58
-returns-in-Some-eq58 c =
+pub returns-in-Some-eq58-clause-passes : goal.returns-in-Some-eq58-clause-passes
+returns-in-Some-eq58-clause-passes c =
     λ place name key text reached.
     let buffer = c.args.input.now in
     let language = language_of c.args.language in

@@ -5,13 +5,8 @@ use Rattle.facet_json_reader.specs.PlaceViews.{language_of}
 use Rattle.facet_json_reader.specs.Inner.Quick.{null_stands}
 use Rattle.facet_json_reader.proofs.wanted.NullWanted.pass.Goals as goal
 
-pub returns-in_err-span : goal.returns-in_err-span
-returns-in_err-span c =
-    let at = c.in_ok-at.ensures in
-    rw c.from_residual-in_err-span.ensures
-    (c.in_err-span.ensures (language_of c.args.language) at.reaches.0 byte.lower_n _ null_stands (at.here ∙ ap Some c.if-first-ne110.false) at.reaches.1 at.reaches.2)
-
 pub returns : goal.returns
 returns c =
     let at = c.in_ok-at.ensures in
-    c.in_ok-span.ensures (language_of c.args.language) at.reaches.0 byte.lower_n _ null_stands (at.here ∙ ap Some c.if-first-ne110.false) at.reaches.1 at.reaches.2
+    c.in_ok-span.ensures.passes (language_of c.args.language) at.reaches.0 byte.lower_n _ null_stands
+    (at.here ∙ ap Some c.if-first-ne110.false) at.reaches.1 at.reaches.2

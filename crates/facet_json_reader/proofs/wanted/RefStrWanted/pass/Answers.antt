@@ -1,10 +1,9 @@
 -- Where a value may stand a string is a text, and gives its event.
-use Rattle.std.proofs.Common.{false, ◌+◌, refl}
+use Rattle.std.proofs.Common.{false, ◌+◌}
 use Rattle.facet_format.specs.Event.{text, borrowed}
 use Rattle.facet_json_reader.specs.PlaceViews.{language_of}
 use Rattle.facet_json_reader.proofs.ValuesThere.{text-there, text_there-kind}
 use Rattle.facet_json_reader.proofs.AllowedTexts.{unescaped-allowed}
-use Rattle.facet_json_reader.proofs.QuickEvents.{scalar-passes}
 use Rattle.facet_json_reader.proofs.wanted.RefStrWanted.pass.Goals as goal
 
 pub returns : goal.returns
@@ -16,7 +15,5 @@ returns c =
     let t = c.in_ok-end in
     let there = text-there input at t.end t.text.now t.ensures.text in
     let is = text_there-kind input at t.end t.text.now t.ensures.text in
-    let value = text (borrowed t.text.now) in
-    rw (c.new-span.ensures.offset, c.new-span.ensures.len)
-    (scalar-passes input language c.args.reader.now r.0 at _ value _ c.move_past.new.self r.1 r.2 refl there
-    (rw is (unescaped-allowed language input (at + 1) t.end t.ensures.unescaped _ false)) (rw (c.new-span.ensures.offset, c.new-span.ensures.len) at c.move_past.ensures value))
+    c.pass_scalar-span.ensures input language r.0 (text (borrowed t.text.now)) there
+    (rw is (unescaped-allowed language input (at + 1) t.end t.ensures.unescaped _ false)) r.1 r.2
