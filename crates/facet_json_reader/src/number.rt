@@ -168,20 +168,9 @@ fn short_number_strict(input: &[u8], at: usize, first: u8) -> Option<Short>
     ensures there { IfSome result (λ r. IsShortNumber input.now at r.0 r.1) }
     ensures strict { IfSome result (λ r. IsRfcNumber (slice_range input.now at (at + r.0))) }
 {
-    match short_whole_strict(input, at, first) {
-        Some((len, whole)) => Some((len, Some(whole))),
-        None => short_by_rfc_parts(input, at, first),
+    if let Some((len, whole)) = short_whole_strict(input, at, first) {
+        return Some((len, Some(whole)));
     }
-}
-
-/// The length and the value of a number of RFC 8259, found part by part.
-#[inline(always)]
-fn short_by_rfc_parts(input: &[u8], at: usize, first: u8) -> Option<Short>
-    requires here { slice_get input.now at ≡ Some first }
-    requires number { start_of first ≡ opens_number }
-    ensures there { IfSome result (λ r. IsShortNumber input.now at r.0 r.1) }
-    ensures strict { IfSome result (λ r. IsRfcNumber (slice_range input.now at (at + r.0))) }
-{
     let parts = parts_at(input, at);
     if !has_rfc_parts(parts, &input[at..]) {
         return None;

@@ -4,7 +4,7 @@ use Rattle.std.proofs.lemmas.List.{take_rest}
 use Rattle.std.proofs.lemmas.Option.{IfSome_then}
 use Rattle.facet_json_token.specs.RfcNumberTest.{are_rfc_parts}
 use Rattle.facet_json_reader.proofs.RfcNumbersThere.{parts-strict}
-use Rattle.facet_json_reader.proofs.number.short_by_rfc_parts.Goals as goal
+use Rattle.facet_json_reader.proofs.number.short_number_strict.Goals as goal
 
 pub returns-clause-strict : goal.returns-clause-strict
 returns-clause-strict c =
