@@ -13,8 +13,7 @@ pub use facet_json_core::laws::{
     refused_in_one_way, restore_brings_back, runs_or_breaks_off, same_bytes_same_text,
     save_is_numbered, skip_passes_run, spelled_is_run, strict_ends_at_run, strict_headline,
     strict_input_comes, strict_is_plain, strict_reads_texts, taken_in_order, tree_by_calls,
-    tree_taken, trusted_agrees,
-    unknown_changes_nothing, walk_is_one_value,
+    tree_taken, trusted_agrees, unknown_changes_nothing, walk_is_one_value,
 };
 pub use facet_json_facet::laws::same_bytes_read_alike;
 pub use facet_json_grammar::laws::{

@@ -95,7 +95,13 @@ impl Way<'_> {
 }
 
 /// Tells what is told of the input, and each other telling of it.
-pub fn compare(alloc: Global, languages: &[Language], ways: &[Way<'_>], input: &[u8], written: &mut Told) {
+pub fn compare(
+    alloc: Global,
+    languages: &[Language],
+    ways: &[Way<'_>],
+    input: &[u8],
+    written: &mut Told,
+) {
     let ([language, ..], [way, ..]) = (languages, ways) else {
         return written.line("NO MODE");
     };

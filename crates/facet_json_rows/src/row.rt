@@ -173,9 +173,21 @@ static ALL_CAPTURES: [Way<'static>; 2] = [
 ];
 
 /// Tells what parsers of the input answer to the script's calls.
-fn answer_script(alloc: Global, languages: &[Language], script: &str, input: &[u8], told: &mut Told) {
+fn answer_script(
+    alloc: Global,
+    languages: &[Language],
+    script: &str,
+    input: &[u8],
+    told: &mut Told,
+) {
     match parse_script(alloc, script) {
-        Ok(calls) => compare(alloc, languages, &[Way::ByCalls(calls.as_slice())], input, told),
+        Ok(calls) => compare(
+            alloc,
+            languages,
+            &[Way::ByCalls(calls.as_slice())],
+            input,
+            told,
+        ),
         Err(_) => told.line("NO SCRIPT"),
     }
 }

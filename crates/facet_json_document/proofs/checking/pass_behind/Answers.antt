@@ -1,6 +1,6 @@
 -- What stands behind a document is refused there.
 use Rattle.std.proofs.Common.{◌∙◌, ◌≡◌, ◌≤◌, ℕ, List, [], length, refl, sym, ap, subst, arith}
-use Rattle.std.specs.Prelude.{Err}
+use Rattle.std.specs.Prelude.{Ok, Err}
 use Rattle.facet_format.specs.Complaint.{Refusal}
 use Rattle.facet_format.specs.Event.{ContainerKind}
 use Rattle.facet_format.specs.declared.span.Span.{Span as RustSpan}
@@ -31,7 +31,8 @@ returns-then-skip_gap-text-clause-done c =
 pub returns-in-Ok-clause-done : goal.returns-in-Ok-clause-done
 returns-in-Ok-clause-done c =
     let behind : RustReader = record { last = c.args.last; contexts = c.new.result; stage = stages.Within places.AfterRoot } in
-    absurd (upcoming-refuses c.args.text.now (mode_of c.args.mode) (span_of c.args.last) c.requires.inside behind c.new.ensures refl refl c.in-Ok.field-0 (rw c.from-language.ensures at c.in-Ok.ensures))
+    absurd (upcoming-refuses c.args.text.now (mode_of c.args.mode) (span_of c.args.last) c.requires.inside behind c.new.ensures refl refl c.in-Ok.field-0
+    (subst (λ language. IsUpcoming c.args.text.now language behind (Ok c.in-Ok.field-0)) c.from-language.ensures c.in-Ok.ensures))
 
 -- It is refused as the reader refuses it.
 told : (text : List ℕ) (mode : Mode) (last : RustSpan) (inside : stop (span_of last) ≤ length text) (contexts : List ContainerKind) (none : contexts ≡ [])
@@ -45,8 +46,10 @@ told text mode last inside contexts none to at there is w more e was r same =
 
 pub returns-clause-refused : goal.returns-clause-refused
 returns-clause-refused c =
+    let behind : RustReader = record { last = c.args.last; contexts = c.new.result; stage = stages.Within places.AfterRoot } in
     told c.args.text.now (mode_of c.args.mode) c.args.last c.requires.inside c.new.result c.new.ensures c.skip_gap.result c.end.result
-    (c.end.ensures.fits (omega (arith, c.requires.inside))) c.skip_gap.ensures.end c.skip_gap.ensures.within c.if-skip_gap-text.false c.in-Err.refused (rw c.from-language.ensures at c.in-Err.ensures)
+    (c.end.ensures.fits (omega (arith, c.requires.inside))) c.skip_gap.ensures.end c.skip_gap.ensures.within c.if-skip_gap-text.false c.in-Err.refused
+    (subst (λ language. IsUpcoming c.args.text.now language behind (Err c.in-Err.refused)) c.from-language.ensures c.in-Err.ensures)
     (refusal_of c.from-in-Err.result) (ap refusal_of c.from-in-Err.ensures ∙ c.from.ensures)
 
 pub returns-clause-within : goal.returns-clause-within
