@@ -24,103 +24,38 @@ mod writers;
 mod writing;
 
 pub use documents::Documents;
-pub use facet_format::ContainerKind;
-pub use facet_format::Decimal;
-pub use facet_format::DeserializeError;
-pub use facet_format::DeserializeErrorKind;
-pub use facet_format::FieldKey;
-pub use facet_format::FieldLocationHint;
-pub use facet_format::FormatParser;
-pub use facet_format::FormatSerializer;
-pub use facet_format::ParseError;
-pub use facet_format::ParseEvent;
-pub use facet_format::ParseEventKind;
-pub use facet_format::SavePoint;
-pub use facet_format::ScalarValue;
-pub use facet_format::Span;
-pub use facet_json_core::Answer;
-pub use facet_json_core::Call;
-pub use facet_json_core::Excerpt;
-pub use facet_json_core::JsonError;
-pub use facet_json_core::JsonErrorKind;
-pub use facet_json_core::Position;
-pub use facet_json_core::RawJson;
-pub use facet_json_core::Report;
-pub use facet_json_core::Result;
-pub use facet_json_core::TranscodeError;
-pub use facet_json_core::drive;
-pub use facet_json_core::pass_end;
-pub use facet_json_core::position_at;
-pub use facet_json_core::transcode;
-pub use facet_json_document::Document;
-pub use facet_json_document::FormatOptions;
-pub use facet_json_document::Indent;
-pub use facet_json_document::Items;
-pub use facet_json_document::Members;
-pub use facet_json_document::Value;
-pub use facet_json_document::ValueKind;
-pub use facet_json_document::check;
-pub use facet_json_document::check_jsonc;
-pub use facet_json_document::check_strict;
-pub use facet_json_document::check_whole;
-pub use facet_json_document::format_text;
-pub use facet_json_document::format_text_strict;
-pub use facet_json_facet::Facet;
-pub use facet_json_facet::ReadResult;
-pub use facet_json_facet::from_slice;
-pub use facet_json_facet::from_slice_borrowed;
-pub use facet_json_facet::from_slice_borrowed_jsonc;
-pub use facet_json_facet::from_slice_jsonc;
-pub use facet_json_facet::from_slice_prefix;
-pub use facet_json_facet::from_slice_strict;
-pub use facet_json_facet::from_str;
-pub use facet_json_facet::from_str_borrowed;
-pub use facet_json_facet::from_str_borrowed_jsonc;
-pub use facet_json_facet::from_str_jsonc;
-pub use facet_json_facet::from_str_prefix;
-pub use facet_json_facet::from_str_strict;
-pub use facet_json_fields::Done;
-pub use facet_json_fields::Fields;
-pub use facet_json_fields::LentFields;
-pub use facet_json_fields::Maybe;
-pub use facet_json_fields::Need;
-pub use facet_json_fields::read_fields;
-pub use facet_json_fields::write_fields;
+pub use facet_format::{
+    ContainerKind, Decimal, DeserializeError, DeserializeErrorKind, FieldKey, FieldLocationHint,
+    FormatParser, FormatSerializer, ParseError, ParseEvent, ParseEventKind, SavePoint, ScalarValue,
+    Span,
+};
+pub use facet_json_core::{
+    Answer, Call, Excerpt, JsonError, JsonErrorKind, Position, RawJson, Report, Result,
+    TranscodeError, drive, pass_end, position_at, transcode,
+};
+pub use facet_json_document::{
+    Document, FormatOptions, Indent, Items, Members, Value, ValueKind, check, check_jsonc,
+    check_strict, check_whole, format_text, format_text_strict,
+};
+pub use facet_json_facet::{
+    Facet, ReadResult, from_slice, from_slice_borrowed, from_slice_borrowed_jsonc,
+    from_slice_jsonc, from_slice_prefix, from_slice_strict, from_str, from_str_borrowed,
+    from_str_borrowed_jsonc, from_str_jsonc, from_str_prefix, from_str_strict,
+};
+pub use facet_json_fields::{Done, Fields, LentFields, Maybe, Need, read_fields, write_fields};
 pub use facet_json_parser::JsonParser;
-pub use facet_json_reader::Language;
-pub use facet_json_reader::MaterializedToken;
-pub use facet_json_reader::TokenKind;
-pub use facet_json_serializer::BytesFormat;
-pub use facet_json_serializer::HexBytesOptions;
-pub use facet_json_serializer::JsonSerializeError;
-pub use facet_json_serializer::JsonSerializer;
-pub use facet_json_serializer::SerializeOptions;
-pub use facet_json_token::Trust;
-pub use facet_json_tree::NotStored;
-pub use facet_json_tree::OwnedDecimal;
-pub use facet_json_tree::PointerError;
-pub use facet_json_tree::Tree;
-pub use facet_json_tree::WriteError;
-pub use facet_json_tree::read_tree;
-pub use facet_json_tree::tree_from_slice;
-pub use facet_json_tree::tree_from_slice_jsonc;
-pub use facet_json_tree::tree_from_slice_strict;
-pub use facet_json_tree::tree_from_slice_within;
-pub use facet_json_tree::tree_from_slice_within_jsonc;
-pub use facet_json_tree::tree_from_slice_within_strict;
-pub use facet_json_tree::write_tree;
-pub use lines::Line;
-pub use lines::LineError;
-pub use lines::Lines;
-pub use options::ReadOptions;
-pub use options::from_slice_with_options;
-pub use options::from_str_with_options;
-pub use writers::to_writer_std;
-pub use writers::to_writer_std_pretty;
-pub use writers::to_writer_std_with_options;
-pub use writing::to_string;
-pub use writing::to_string_pretty;
-pub use writing::to_string_with_options;
-pub use writing::to_vec;
-pub use writing::to_vec_pretty;
-pub use writing::to_vec_with_options;
+pub use facet_json_reader::{Language, MaterializedToken, TokenKind};
+pub use facet_json_serializer::{
+    BytesFormat, HexBytesOptions, JsonSerializeError, JsonSerializer, SerializeOptions,
+};
+pub use facet_json_tree::{
+    NotStored, OwnedDecimal, PointerError, Tree, WriteError, read_tree, tree_from_slice,
+    tree_from_slice_jsonc, tree_from_slice_strict, tree_from_slice_within,
+    tree_from_slice_within_jsonc, tree_from_slice_within_strict, write_tree,
+};
+pub use lines::{Line, LineError, Lines};
+pub use options::{ReadOptions, from_slice_with_options, from_str_with_options};
+pub use writers::{to_writer_std, to_writer_std_pretty, to_writer_std_with_options};
+pub use writing::{
+    to_string, to_string_pretty, to_string_with_options, to_vec, to_vec_pretty, to_vec_with_options,
+};

@@ -139,7 +139,8 @@ pub fn from_slice_with_options<'t, 'de, T: Facet<'de>>(
     ensures deeper { (span : SpecSpan) → IsTooDeep options input.now span
         → MatchResult result (λ _. ⊥) (λ e. refusal_of e ≡ too_deep_at span) }
     ensures value { ((span : SpecSpan) → IsTooDeep options input.now span → ⊥)
-        → ReadIn (language_of options.language) options.borrows T.shape.reading_borrowed T.shape.reading T.whole T.view input.now result }
+        → ReadIn (language_of options.language) options.borrows T.shape.reading_borrowed T.shape.reading T.whole T.view input.now
+        result }
     ensures owned { options.borrows ≡ false → IfOk result T.owned }
     ensures within { IfErr result (λ e. RefusalWithin input.now (refusal_of e)) }
 {
@@ -181,7 +182,8 @@ pub fn from_str_with_options<'t, 'de, T: Facet<'de>>(
     ensures deeper { (span : SpecSpan) → IsTooDeep options input.now span
         → MatchResult result (λ _. ⊥) (λ e. refusal_of e ≡ too_deep_at span) }
     ensures value { ((span : SpecSpan) → IsTooDeep options input.now span → ⊥)
-        → ReadIn (language_of options.language) options.borrows T.shape.reading_borrowed T.shape.reading T.whole T.view input.now result }
+        → ReadIn (language_of options.language) options.borrows T.shape.reading_borrowed T.shape.reading T.whole T.view input.now
+        result }
     ensures owned { options.borrows ≡ false → IfOk result T.owned }
     ensures within { IfErr result (λ e. RefusalWithin input.now (refusal_of e)) }
 {

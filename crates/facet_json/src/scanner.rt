@@ -7,6 +7,7 @@ pub use facet_json_scan::{
 };
 pub use facet_json_token::{
     DecodeError, Mode, ParsedNumber, ScanError, ScanErrorKind, ScanResult, SpannedToken, Token,
-    decode_string, decode_string_borrowed, decode_string_borrowed_unchecked, decode_string_owned,
-    decode_string_owned_unchecked, decode_string_unchecked, parse_number, parse_number_unchecked,
+    Trust, decode_string, decode_string_borrowed, decode_string_borrowed_unchecked,
+    decode_string_owned, decode_string_owned_unchecked, decode_string_unchecked, parse_number,
+    parse_number_unchecked,
 };

@@ -6,11 +6,10 @@ ghost use Rattle.facet_json.specs.LanguageViews.{language_of};
 ghost use Rattle.facet_json.specs.Reading.{LacksMemory};
 ghost use Rattle.facet_json_lint.specs.Checked.{IsWholeSource};
 
-use facet_json::scanner::Mode;
+use facet_json::scanner::{Mode, Trust};
 use facet_json::{
     DeserializeError, DeserializeErrorKind, FormatOptions, FormatParser, JsonParser, Language,
-    ParseEvent, ParseEventKind, Span, Trust, check_strict, check_whole, format_text,
-    format_text_strict,
+    ParseEvent, ParseEventKind, Span, check_strict, check_whole, format_text, format_text_strict,
 };
 use std::alloc::{AllocError, Global};
 

@@ -2,8 +2,9 @@
 
 use crate::cuts::tell_cuts;
 use crate::unread::{Unread, next_span, tell_parts};
+use facet_json::scanner::Trust;
 use facet_json::{
-    Answer, Call, JsonParser, Language, Trust, drive, tree_from_slice, tree_from_slice_jsonc,
+    Answer, Call, JsonParser, Language, drive, tree_from_slice, tree_from_slice_jsonc,
     tree_from_slice_strict,
 };
 use facet_json_row_values::shown::{Telling, push, push_answers};
