@@ -128,8 +128,8 @@ impl Default for ReadOptions {
 ///
 /// # Errors
 ///
-/// At the first opening bracket with `depth` others around it in the input's value: kind 5, its span the bracket's, whatever stands after it.
-/// Else as `from_slice`, or as `from_slice_strict`.
+/// At the first opening bracket with `depth` others around it in the input's value: kind 5, its span the bracket's, whatever stands
+/// after it. Else as `from_slice`, or as `from_slice_strict`.
 pub fn from_slice_with_options<'t, 'de, T: Facet<'de>>(
     alloc: Global,
     input: &'de [u8],
