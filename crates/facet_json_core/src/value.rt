@@ -11,7 +11,7 @@ ghost use Rattle.facet_json_grammar.specs.Document.{IsDocument};
 ghost use Rattle.facet_json_grammar.specs.Future.{Future, finished, gives};
 ghost use Rattle.facet_json_grammar.specs.StrictDocument.{IsStrictDocument};
 ghost use Rattle.facet_json_grammar.specs.Next.{PassesNext, IsOver};
-ghost use Rattle.facet_json_grammar.specs.Now.{ahead, future_of, GoesOn, current_span_of as last_read, StandsAt};
+ghost use Rattle.facet_json_grammar.specs.Now.{ahead, future_of, GoesOn, current_span_of as last_read};
 ghost use Rattle.facet_json_serializer.specs.Serializer.{Writing as SpecWriting, Appends};
 ghost use Rattle.facet_json_serializer.specs.TreeCalls.{with_tree};
 ghost use Rattle.facet_json_serializer.specs.Views.{call_answer_of};
@@ -23,10 +23,8 @@ ghost use Rattle.facet_json_core.specs.Told.{begins};
 ghost use Rattle.facet_json_core.specs.Transcode.{serializer_call_of, containers_after as spec_depth_after, IsWritten, BeginsNone};
 ghost use Rattle.facet_json_core.specs.TranscodeViews.{IsUnwritten, TranscodeLacksMemory, IsTranscodeRefused, ErrorWithin, IsMisplaced};
 ghost use Rattle.facet_json_core.specs.TranscodeViews.{FromNew, FromNewStrict, TellsError, WritesDocument, WritesStrictDocument};
-ghost use Rattle.facet_format.specs.Cursor.{next, event};
 ghost use Rattle.facet_format.specs.Span.{stop};
-ghost use Rattle.facet_format.specs.Steps.{IsStep};
-ghost use Rattle.facet_json_grammar.specs.Move.{Moves};
+ghost use Rattle.facet_json_grammar.specs.Move.{MovesBy, StepsBy};
 ghost use Rattle.facet_json_grammar.specs.UnreadLaws.{RefusalWithin};
 
 use crate::transcode_error::TranscodeError;
@@ -207,8 +205,8 @@ pub fn next_of_value<'t, 'de>(
     ensures onward { GoesOn parser.old parser.new }
     ensures shorter { OnOk result (ahead parser.new < ahead parser.old) }
     ensures passed { IfOk result (λ e. PassesNext parser.old (event_of e) parser.new) }
-    ensures steps { IfOk result (λ e. IsStep StandsAt parser.old next (event (Ok (Some (event_of e)))) parser.new) }
-    ensures moves { IfOk result (λ e. Moves parser.old next (event (Ok (Some (event_of e)))) parser.new) }
+    ensures steps { IfOk result (λ e. StepsBy parser.old (event_of e) parser.new) }
+    ensures moves { IfOk result (λ e. MovesBy parser.old (event_of e) parser.new) }
     ensures walks { IfOk result (λ e. WalksPast parser.old (event_of e) parser.new) }
     ensures by_kind { IfOk result (λ e. PassesByKind (event_of e).kind parser.old parser.new) }
     ensures event_within { IfOk result (λ e. stop (event_of e).span ≤ length parser.new.buffer) }
@@ -232,8 +230,8 @@ pub fn next_in_line<'t, 'de>(
     ensures onward { GoesOn parser.old parser.new }
     ensures shorter { OnOk result (ahead parser.new < ahead parser.old) }
     ensures passed { IfOk result (λ e. PassesNext parser.old (event_of e) parser.new) }
-    ensures steps { IfOk result (λ e. IsStep StandsAt parser.old next (event (Ok (Some (event_of e)))) parser.new) }
-    ensures moves { IfOk result (λ e. Moves parser.old next (event (Ok (Some (event_of e)))) parser.new) }
+    ensures steps { IfOk result (λ e. StepsBy parser.old (event_of e) parser.new) }
+    ensures moves { IfOk result (λ e. MovesBy parser.old (event_of e) parser.new) }
     ensures event_within { IfOk result (λ e. stop (event_of e).span ≤ length parser.new.buffer) }
     ensures refused { parser.old.cursor.refusal ≡ None → IfErr result (λ e. GivesNone parser.old (refusal_of e)) }
     ensures lacks { IfErr result (λ e. LacksAlone parser.old (refusal_of e)) }

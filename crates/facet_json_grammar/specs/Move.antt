@@ -1,14 +1,24 @@
 -- What a call does to a parser on any input, whether a document stands there or not: one step of a cursor over the input's places. That
 -- on a document it is a cursor on the walk follows.
-use Rattle.std.specs.Prelude.{ℕ, List}
-use Rattle.facet_format.specs.Cursor.{Call, Answer, Step, Run, kept_here}
+use Rattle.std.specs.Prelude.{ℕ, List, Some, Ok}
+use Rattle.facet_format.specs.Cursor.{Call, Answer, Step, Run, kept_here, next, event}
+use Rattle.facet_format.specs.Event.{Event}
 use Rattle.facet_format.specs.Kept.{without}
-use Rattle.facet_json_grammar.specs.Now.{Now, SameInput, on_input}
+use Rattle.facet_format.specs.Steps.{IsStep}
+use Rattle.facet_json_grammar.specs.Now.{Now, SameInput, StandsAt, on_input}
 
 -- The call may be answered so, and leaves the parser so.
 pub record Moves (old : Now) (call : Call) (answer : Answer) (new : Now) : Type 0 where
   pub input : SameInput old new
   pub step : Step (on_input old.buffer old.language) old.cursor call answer new.cursor
+
+-- The next event is this one,
+abbrev pub MovesBy : Now → Event → Now → Type 0
+MovesBy old given new = Moves old next (event (Ok (Some given))) new
+
+-- and is a step of a cursor on the walk of a document, where one stands.
+abbrev pub StepsBy : Now → Event → Now → Type 0
+StepsBy old given new = IsStep StandsAt old next (event (Ok (Some given))) new
 
 -- All calls in order are answered so.
 pub record MovesAll (old : Now) (calls : List Call) (answers : List Answer) (new : Now) : Type 0 where

@@ -6,7 +6,6 @@ pub mod FirstParts
 pub mod KeptSpots
 pub mod MarkSteps
 pub mod OpenRuns
-pub mod MarksAreCut
 pub mod OpenedContainers
 pub mod ParserWithin
 pub mod PartsArePassed

@@ -10,13 +10,13 @@ use Rattle.facet_json_token.specs.Tokens.{next}
 use Rattle.facet_json_token.specs.TokenList.{tokens_from}
 use Rattle.facet_json_token.proofs.CutBounds.{past_gap-bound}
 use Rattle.facet_json_token.proofs.Gaps.{past_gap-again, cut-past_gap}
+use Rattle.facet_json_token.proofs.InSight.{structural-is_cut}
 use Rattle.facet_json_token.proofs.Offsets.{slice_get-from_read}
 use Rattle.facet_json_token.proofs.TokensSteps.{tokens_by_first, tokens_from-token}
 use Rattle.facet_json_grammar.specs.Inner.PassedRun.{leaves, passing, passed, Outcome}
 use Rattle.facet_json_grammar.proofs.Runs.RunsPassed.{passed-next, passed-any}
 use Rattle.facet_json_reader.proofs.TokensThere.{tokens-past_gap, there-fits}
 use Rattle.facet_json_parser.specs.Inner.Quiet.{RunLeadsOn, EndsGap}
-use Rattle.facet_json_parser.proofs.MarksAreCut.{mark-is_cut}
 use Rattle.facet_json_parser.proofs.RunSteps.{RunComesTo, run_goes_on}
 
 -- It opens and closes nothing.
@@ -79,7 +79,7 @@ module _ (buffer : List ℕ) (mode : Mode) where
   separator-leads_on at b kind is here room quiet =
       let t : Token = record { kind = kind; span = span_at at 1 } in
       first-leads_on at (at + 1) t (omega arith) (omega (arith, room)) quiet
-      (tokens_from-token buffer at mode t (omega (arith, room)) (sym (mark-is_cut buffer at b mode kind is here)))
+      (tokens_from-token buffer at mode t (omega (arith, room)) (sym (structural-is_cut buffer at b kind here is mode)))
 
   -- So is a comma or a colon that was read there.
   pub read-leads_on : (at b read : ℕ) (kind : Kind) → IsStructural b kind → (at < length buffer) × ((d : ℕ) → read ≡ get_or buffer at d) → read ≡ b → IsQuiet kind →

@@ -297,8 +297,20 @@ impl<'de> Lookahead<'de> {
         leave(&mut self.reader, part, last);
     }
 
-    /// Drops the event that is held, and closes the container that it opens.
+    /// Drops the event that is held, if there is one, and closes the container that it opens.
+    #[inline(always)]
     fn release(&mut self)
+        ensures { lookahead_of self.new ≡ lookahead_at (reader_before (lookahead_of self.old)) }
+    {
+        if self.held.is_some() {
+            self.release_held();
+        }
+        self.shown = false;
+    }
+
+    /// Does so by a call, so that nothing is moved where no event is held.
+    #[inline(never)]
+    fn release_held(&mut self)
         ensures { lookahead_of self.new ≡ lookahead_at (reader_before (lookahead_of self.old)) }
     {
         if let Some(held) = self.held.take() {

@@ -15,7 +15,7 @@ ghost use Rattle.facet_json_grammar.specs.Language.{strict};
 ghost use Rattle.facet_json_grammar.specs.Future.{finished};
 ghost use Rattle.facet_json_reader.specs.PlaceViews.{language_of, refused_of};
 ghost use Rattle.facet_json_grammar.specs.Now.{fresh, fresh_in, current_span_of, ahead, future_of, SameInput, GoesOn, StandsAt};
-ghost use Rattle.facet_json_grammar.specs.Move.{Moves, with_kept, without_point};
+ghost use Rattle.facet_json_grammar.specs.Move.{Moves, MovesBy, with_kept, without_point};
 ghost use Rattle.facet_json_grammar.specs.Next.{PassesNext, ShowsNext, PassesAll, IsOver};
 ghost use Rattle.facet_json_parser.specs.Inner.Wanted.{PassesWanted, NeverGives};
 ghost use Rattle.facet_json_reader.specs.Inner.Soughts.{event_of_sought};
@@ -225,7 +225,7 @@ impl<'de> JsonParser<'de> {
     #[inline(always)]
     fn step<W: Wanted<'de>>(&mut self) -> Option<(W, Span)>
         ensures passed { MatchOption result (self.new ≡ self.old)
-            (λ r. Moves self.old next (event (Ok (Some (record { kind = W.kind r.0; span = span_of r.1 })))) self.new) }
+            (λ r. MovesBy self.old (record { kind = W.kind r.0; span = span_of r.1 }) self.new) }
         ensures within { NowWithin self.old }
     {
         if self.refusal.is_some() {

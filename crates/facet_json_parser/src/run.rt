@@ -20,7 +20,7 @@ use crate::marks::pass_blocks;
 use crate::quiet::past_quiet;
 use facet_format::{ContainerKind, Span};
 use facet_json_reader::{Contexts, Expected, Name, Refused, Why};
-use facet_json_token::cutting::token_at;
+use facet_json_token::quick::structural;
 use facet_json_token::{CutResult, Mode, SpannedToken, Token, cut};
 use std::alloc::Global;
 use std::mem;
@@ -201,13 +201,11 @@ fn next_token(input: &[u8], position: usize, mode: Mode) -> CutResult
     ensures end { IfOk result (λ t. t.token ≡ Token.Eof → span_of t.span ≡ span_at (length input.now) 0) }
 {
     match input.get(position) {
-        Some(b'[') => token_at(Token::ArrayStart, position, 1),
-        Some(b']') => token_at(Token::ArrayEnd, position, 1),
-        Some(b'{') => token_at(Token::ObjectStart, position, 1),
-        Some(b'}') => token_at(Token::ObjectEnd, position, 1),
-        Some(b',') => token_at(Token::Comma, position, 1),
-        Some(b':') => token_at(Token::Colon, position, 1),
-        _ => cut(input, position, mode),
+        Some(byte) => match structural(*byte, position) {
+            Some(token) => Ok(token),
+            None => cut(input, position, mode),
+        },
+        None => cut(input, position, mode),
     }
 }
 

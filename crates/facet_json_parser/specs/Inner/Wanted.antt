@@ -1,18 +1,17 @@
 -- What a caller wants next, or looks for.
 use Rattle.std.specs.Prelude.{◌≡◌, ◌≢◌, ◌<◌, Some, Ok}
-use Rattle.facet_format.specs.Cursor.{event, next}
+use Rattle.facet_format.specs.Cursor.{event}
 use Rattle.facet_format.specs.Event.{Event, EventKind, Passed}
-use Rattle.facet_format.specs.Steps.{IsStep}
 use Rattle.facet_json_grammar.specs.Future.{Future, gives}
-use Rattle.facet_json_grammar.specs.Move.{Moves}
+use Rattle.facet_json_grammar.specs.Move.{MovesBy, StepsBy}
 use Rattle.facet_json_grammar.specs.Next.{PassesNext}
-use Rattle.facet_json_grammar.specs.Now.{Now, StandsAt, ahead, GoesOn}
+use Rattle.facet_json_grammar.specs.Now.{Now, ahead, GoesOn}
 use Rattle.facet_json_grammar.specs.Within.{AnswerWithin}
 
 -- The event came next and is passed, as `next_event` passes it.
 pub record PassesWanted (old : Now) (given : Event) (new : Now) : Type 0 where
-  pub moves : Moves old next (event (Ok (Some given))) new
-  pub steps : IsStep StandsAt old next (event (Ok (Some given))) new
+  pub moves : MovesBy old given new
+  pub steps : StepsBy old given new
   pub next : PassesNext old given new
   pub onward : GoesOn old new
   pub shorter : ahead new < ahead old
