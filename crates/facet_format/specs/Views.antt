@@ -2,7 +2,7 @@
 use Rattle.std.specs.Prelude.{ℕ, List, map, Option, Some, None, Result, Ok, Err}
 use Rattle.std.specs.Borrow.{Bor}
 use Rattle.std.specs.Option.{option_map}
-use Rattle.facet_format.specs.declared.span.Span.{Span as RustSpan}
+use Rattle.facet_format.specs.declared.event.Span.{Span as RustSpan}
 use Rattle.facet_format.specs.declared.numeral.NumberHint.{NumberHint}
 use Rattle.facet_format.specs.declared.numeral.NumberHint.TheVariants as hint
 use Rattle.facet_format.specs.declared.error.DeserializeErrorKind.{DeserializeErrorKind}

@@ -4,7 +4,7 @@ ghost use Rattle.std.specs.Prelude.{◌≡◌};
 ghost use Rattle.facet_format.specs.Complaint.{code_of, no_memory};
 ghost use Rattle.facet_format.specs.Views.{refusal_of, complaint_of, memory_refused};
 
-use crate::span::Span;
+use crate::event::Span;
 use std::alloc::{AllocError, AllocFailed};
 
 /// Why reading was refused. The texts are constants of the reader, so a refusal does not allocate.

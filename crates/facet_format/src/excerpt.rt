@@ -6,10 +6,10 @@ ghost use Rattle.facet_format.specs.Views.{span_of};
 ghost use Rattle.facet_format.specs.Line.{begun_line, rest_of_line};
 ghost use Rattle.facet_format.specs.Report.{blank, marked, excerpt_text};
 
+use crate::event::Span;
 use crate::line::{
     Position, begins_character, characters, line_len, line_start, position_at, split,
 };
-use crate::span::Span;
 use std::fmt;
 
 /// A place in a source. Displayed, it is its line and column, then the text of the line, and then carets below what is meant, as far

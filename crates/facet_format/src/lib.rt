@@ -13,16 +13,15 @@ pub mod numeral;
 mod parse_error;
 mod parser;
 mod serializer;
-mod span;
 
 pub use decimal::Decimal;
 pub use error::{DeserializeError, DeserializeErrorKind};
 pub use event::{
     ContainerKind, FieldKey, FieldLocationHint, ParseEvent, ParseEventKind, SavePoint, ScalarValue,
+    Span,
 };
 pub use excerpt::Excerpt;
 pub use line::{Position, position_at};
 pub use parse_error::ParseError;
 pub use parser::FormatParser;
 pub use serializer::FormatSerializer;
-pub use span::Span;

@@ -5,7 +5,7 @@ ghost use Rattle.facet_format.specs.Complaint.{refusal_at};
 ghost use Rattle.facet_format.specs.Views.{span_of, complaint_of, parse_refusal, passed_on};
 
 use crate::error::{DeserializeError, DeserializeErrorKind};
-use crate::span::Span;
+use crate::event::Span;
 
 /// Why a parser refused, and where: what is wrong always stands at some bytes of the input.
 #[derive(Debug, Clone, Copy, PartialEq, Eq)]

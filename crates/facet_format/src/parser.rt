@@ -7,9 +7,8 @@ ghost use Rattle.facet_format.specs.Steps.{IsStep};
 ghost use Rattle.facet_format.specs.Views.{answer_of_event, answer_of_events, answer_of_skip, answer_of_capture, answer_of_save};
 ghost use Rattle.facet_format.specs.Views.{answer_of_span};
 
-use crate::event::{ParseEvent, SavePoint};
+use crate::event::{ParseEvent, SavePoint, Span};
 use crate::parse_error::ParseError;
-use crate::span::Span;
 use std::collections::VecDeque;
 
 /// A parser of a format, over an input that lives for `'de`.

@@ -2,8 +2,8 @@
 use Rattle.std.proofs.Common.{◌≡◌, ◌≢◌, ◌⊎◌, ℕ, List, [], Option, Some, None, IfSome, refl, sym, subst, ◌∙◌, inl, inr}
 use Rattle.std.specs.Io.KnownBytes.{Keeps}
 use Rattle.facet_json_grammar.specs.Language.{Language}
-use Rattle.facet_json_command.specs.declared.outcome.Outcome.{Outcome}
-use Rattle.facet_json_command.specs.declared.outcome.Outcome.TheVariants.{Io, Usage}
+use Rattle.facet_json_command.specs.declared.run.Outcome.{Outcome}
+use Rattle.facet_json_command.specs.declared.run.Outcome.TheVariants.{Io, Usage}
 use Rattle.facet_json_command.specs.Outcome.{IsFailure, IsFaultOfRun}
 use Rattle.facet_json_command.specs.Run.{OutcomeWithin, OnlyGrows, Lists}
 use Rattle.facet_json_command.proofs.Printing.{appends_nothing}

@@ -11,8 +11,8 @@ use Rattle.facet_json_grammar.specs.Now.{Now, fresh_in}
 use Rattle.facet_json_grammar.specs.Move.{Moves, MovesAll}
 use Rattle.facet_json_grammar.proofs.MoveLaws.{moves-one_more}
 use Rattle.facet_json_command.specs.Lines.{event_line}
-use Rattle.facet_json_command.specs.declared.outcome.Outcome.{Outcome}
-use Rattle.facet_json_command.specs.declared.outcome.Outcome.TheVariants.{Done, Refused, Io, Usage}
+use Rattle.facet_json_command.specs.declared.run.Outcome.{Outcome}
+use Rattle.facet_json_command.specs.declared.run.Outcome.TheVariants.{Done, Refused, Io, Usage}
 use Rattle.facet_json_command.specs.Run.{OnlyGrows, Stops, AreListed, Lists}
 use Rattle.facet_json_command.proofs.Printing.{appends_nothing, appends_both, appends_keeps, stops_behind, stops_keeps}
 

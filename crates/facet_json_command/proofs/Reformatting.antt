@@ -6,13 +6,13 @@ use Rattle.facet_json_grammar.specs.Node.{Node}
 use Rattle.facet_json_grammar.specs.Tree.{Tree}
 use Rattle.facet_json_grammar.specs.Document.{IsDocument}
 use Rattle.facet_json_grammar.specs.StrictDocument.{IsStrictDocument, IsStrict}
-use Rattle.facet_json_reader.specs.declared.language.Language.{Language}
-use Rattle.facet_json_reader.specs.declared.language.Language.TheVariants.{Plain, Jsonc, Strict}
+use Rattle.facet_json_reader.specs.declared.place.Language.{Language}
+use Rattle.facet_json_reader.specs.declared.place.Language.TheVariants.{Plain, Jsonc, Strict}
 use Rattle.facet_json_grammar.specs.Now.{Now, fresh, fresh_in}
 use Rattle.facet_json_reader.specs.PlaceViews.{language_of}
 use Rattle.facet_json_serializer.specs.Serializer.{Writing}
 use Rattle.facet_json_serializer.specs.TreeCalls.{with_tree}
-use Rattle.facet_json_command.specs.declared.outcome.Outcome.{Outcome}
+use Rattle.facet_json_command.specs.declared.run.Outcome.{Outcome}
 use Rattle.facet_json_command.specs.Run.{IsDocumentIn, HasDocumentIn, IsRefusal}
 
 -- Behind the end of a value the document is passed.

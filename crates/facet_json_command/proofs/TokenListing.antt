@@ -18,8 +18,8 @@ use Rattle.facet_json_scan.specs.Scanner as scanner
 use Rattle.facet_json_scan.specs.ScannerViews.{answered, fault_answered}
 use Rattle.facet_json_scan.specs.declared.answer.Scanned.{Scanned}
 use Rattle.facet_json_scan.specs.Listed.{token_then, tokens_of_list, refused_by, rest_after, AreAllOf, AreTokensOf}
-use Rattle.facet_json_command.specs.declared.outcome.Outcome.{Outcome}
-use Rattle.facet_json_command.specs.declared.outcome.Outcome.TheVariants.{Done, Refused, Io, Usage}
+use Rattle.facet_json_command.specs.declared.run.Outcome.{Outcome}
+use Rattle.facet_json_command.specs.declared.run.Outcome.TheVariants.{Done, Refused, Io, Usage}
 use Rattle.facet_json_command.specs.Lines.{place_line}
 use Rattle.facet_json_command.specs.TokenLines.{token_line, token_lines, fault_code, EndAs}
 use Rattle.facet_json_command.specs.TokenViews.{line_answered, text_of_token, code_of_kind}

@@ -1,8 +1,8 @@
 -- What is answered where memory is wanted before anything is read.
 use Rattle.std.proofs.Common.{◌≡◌, ℕ, List, [], Option, Some, None, IfSome, ◌⊎◌, refl, inl, inr}
 use Rattle.facet_json_command.specs.Arguments.{Command, fmt, events, tokens, drive}
-use Rattle.facet_json_command.specs.declared.outcome.Outcome.{Outcome}
-use Rattle.facet_json_command.specs.declared.outcome.Outcome.TheVariants.{Done, Refused}
+use Rattle.facet_json_command.specs.declared.run.Outcome.{Outcome}
+use Rattle.facet_json_command.specs.declared.run.Outcome.TheVariants.{Done, Refused}
 use Rattle.facet_json_grammar.specs.Language.{Language}
 use Rattle.facet_json_command.specs.Run.{AnswersInput, HasDocumentIn}
 use Rattle.facet_json_command.specs.Outcome.{IsFailure}

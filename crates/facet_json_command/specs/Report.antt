@@ -1,9 +1,9 @@
 -- What the program says of how a run ended.
 use Rattle.std.specs.Prelude.{ℕ, List, [], ◌++◌, Some, None, codes}
 use Rattle.std.specs.Fmt.{decimal}
-use Rattle.facet_format.specs.declared.span.Span.{Span}
-use Rattle.facet_json_command.specs.declared.outcome.Outcome.{Outcome}
-use Rattle.facet_json_command.specs.declared.outcome.Outcome.TheVariants.{Done, Refused, Io, Usage}
+use Rattle.facet_format.specs.declared.event.Span.{Span}
+use Rattle.facet_json_command.specs.declared.run.Outcome.{Outcome}
+use Rattle.facet_json_command.specs.declared.run.Outcome.TheVariants.{Done, Refused, Io, Usage}
 
 abbrev pub usage : List ℕ
 usage =

@@ -3,7 +3,7 @@ use Rattle.std.specs.Prelude.{◌≡◌, ◌≤◌, ◌+◌, ℕ, ◌⊎◌, Boo
 use Rattle.std.specs.Option.{option_map}
 use Rattle.std.specs.List.{flat_map}
 use Rattle.std.specs.Io.KnownBytes.{Appends}
-use Rattle.facet_format.specs.declared.span.Span.{Span}
+use Rattle.facet_format.specs.declared.event.Span.{Span}
 use Rattle.facet_json_token.specs.Gap.{Mode}
 use Rattle.facet_json_token.specs.Tokens.{Tokens, AreCuts}
 use Rattle.facet_json_grammar.specs.Language.{Language, lenient, strict}
@@ -22,8 +22,8 @@ use Rattle.facet_format.specs.Views.{span_of}
 use Rattle.facet_json_command.specs.Arguments.{Command, fmt, events, tokens, drive}
 use Rattle.facet_json_command.specs.Lines.{event_line, answer_lines}
 use Rattle.facet_json_command.specs.TokenLines.{token_lines, EndAs}
-use Rattle.facet_json_command.specs.declared.outcome.Outcome.{Outcome}
-use Rattle.facet_json_command.specs.declared.outcome.Outcome.TheVariants.{Done, Refused, Io, Usage}
+use Rattle.facet_json_command.specs.declared.run.Outcome.{Outcome}
+use Rattle.facet_json_command.specs.declared.run.Outcome.TheVariants.{Done, Refused, Io, Usage}
 pub use Rattle.facet_json_command.specs.Outcome.{IsFailure, IsFaultOfRun}
 
 -- The input begins with this document, or, where RFC 8259 alone is read, is it. No arguments ask for `strict jsonc`.

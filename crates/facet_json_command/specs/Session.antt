@@ -1,7 +1,7 @@
 -- Which ends of a run tell that a read or a write failed.
 use Rattle.std.specs.Prelude.{◌≡◌, ◌||◌, Bool, true, false, Result, Ok, Err}
-use Rattle.facet_json_command.specs.declared.outcome.Outcome.{Outcome}
-use Rattle.facet_json_command.specs.declared.outcome.Outcome.TheVariants.{Done, Refused, Io, Usage}
+use Rattle.facet_json_command.specs.declared.run.Outcome.{Outcome}
+use Rattle.facet_json_command.specs.declared.run.Outcome.TheVariants.{Done, Refused, Io, Usage}
 
 -- how a run ends that printed so
 abbrev pub outcome_of : {T : Type 0} → Result T Outcome → Outcome

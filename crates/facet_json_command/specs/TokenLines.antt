@@ -1,14 +1,14 @@
 -- The lines that `tokens` prints.
 use Rattle.std.specs.Prelude.{◌≡◌, ℕ, List, [], ◌++◌, Some, codes}
-use Rattle.facet_format.specs.declared.span.Span.{Span as RustSpan}
+use Rattle.facet_format.specs.declared.event.Span.{Span as RustSpan}
 use Rattle.facet_format.specs.Number.{Hint, unsigned, signed, float}
 use Rattle.facet_format.specs.Span.{Span, span_at}
 use Rattle.facet_format.specs.Views.{span_of}
 use Rattle.facet_json_token.specs.Token as token
 use Rattle.facet_json_token.specs.Token.{Kind, Token, FaultKind}
 use Rattle.facet_json_token.specs.Tokens.{Tokens, ended, refused, next}
-use Rattle.facet_json_command.specs.declared.outcome.Outcome.{Outcome}
-use Rattle.facet_json_command.specs.declared.outcome.Outcome.TheVariants.{Done, Refused}
+use Rattle.facet_json_command.specs.declared.run.Outcome.{Outcome}
+use Rattle.facet_json_command.specs.declared.run.Outcome.TheVariants.{Done, Refused}
 use Rattle.facet_json_command.specs.Lines.{place_line, value_line}
 
 -- what stands in a number

@@ -5,11 +5,11 @@ ghost use Rattle.std.specs.Prelude.{MatchOption, MatchResult};
 ghost use Rattle.facet_json_token.specs.Gap.{plain};
 ghost use Rattle.facet_json_grammar.specs.Language.{Language as SpecLanguage, lenient};
 ghost use Rattle.facet_json_reader.specs.PlaceViews.{language_of};
-ghost use Rattle.facet_json_command.specs.declared.outcome.Outcome.TheVariants as outcome;
+ghost use Rattle.facet_json_command.specs.declared.run.Outcome.TheVariants as outcome;
 ghost use Rattle.facet_json_command.specs.Arguments.{AreWords, AskFor, AskForNothing};
 ghost use Rattle.facet_json_command.specs.OutcomeViews.{words_of, command_view, operands_of};
 
-use crate::outcome::Outcome;
+use crate::run::Outcome;
 use crate::script::parse_script;
 use facet_json_core::Call;
 use facet_json_reader::Language;

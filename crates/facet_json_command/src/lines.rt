@@ -12,14 +12,14 @@ ghost use Rattle.facet_json_core.specs.ScriptViews.{answer_of};
 ghost use Rattle.facet_json_grammar.specs.Quoted.{quoted as quoted_text};
 ghost use Rattle.facet_json_grammar.specs.Text.{default_options, text as tree_text};
 ghost use Rattle.facet_json_tree.specs.Views.{tree_view};
-ghost use Rattle.facet_json_command.specs.declared.outcome.Outcome.TheVariants as outcome;
+ghost use Rattle.facet_json_command.specs.declared.run.Outcome.TheVariants as outcome;
 ghost use Rattle.facet_json_command.specs.Lines.{head_text, place_line, value_line, scalar_line, event_line, refusal_line, count_line};
 ghost use Rattle.facet_json_command.specs.Lines.{next_line, raw_line, answer_lines};
 ghost use Rattle.facet_json_command.specs.Views.{count_of};
 ghost use Rattle.facet_json_command.specs.Run.{Prints};
 ghost use Rattle.facet_json_command.specs.Session.{Marks, outcome_of};
 
-use crate::outcome::{OUT_OF_MEMORY, Outcome, Session};
+use crate::run::{OUT_OF_MEMORY, Outcome, Session};
 use facet_format::{ParseError, ParseEvent, ParseEventKind, SavePoint, ScalarValue, Span};
 use facet_json_core::Answer;
 use facet_json_serializer::{JsonSerializeError, JsonSerializer};

@@ -1,10 +1,11 @@
-//! What the program does, over any reader and writer.
+//! What the program does, over any reader and writer, and how a run ends: its outcome, the line on standard error and the status.
 
-ghost use Rattle.std.specs.Prelude.{◌≡◌, ◌≢◌, ◌⊎◌, ℕ, Bool, [], List, Option, None, Some, map, length, IfOk, IfErr, IfSome, OnOk};
+ghost use Rattle.std.specs.Prelude.{◌≡◌, ◌≢◌, ◌⊎◌, ℕ, Bool, [], List, Option, None, Some, map, length, IfOk, IfErr, IfSome, OnOk, Ok};
+ghost use Rattle.std.specs.Prelude.{false, MatchResult};
 ghost use Rattle.std.specs.List.{flat_map};
 ghost use Rattle.std.specs.Vec.Iter.{into_iter_items};
 ghost use Rattle.std.specs.Io.KnownBytes.{Appends, Keeps};
-ghost use Rattle.facet_format.specs.declared.span.Span.{Span as TheSpan};
+ghost use Rattle.facet_format.specs.declared.event.Span.{Span as TheSpan};
 ghost use Rattle.facet_format.specs.Cursor.{Call as SpecCall};
 ghost use Rattle.facet_json_token.specs.Gap.{Mode as SpecMode, plain};
 ghost use Rattle.facet_json_token.specs.Views.{mode_of};
@@ -12,7 +13,7 @@ ghost use Rattle.facet_json_grammar.specs.Language.{Language as SpecLanguage, le
 ghost use Rattle.facet_json_grammar.specs.Node.{Node};
 ghost use Rattle.facet_json_grammar.specs.StrictDocument.{IsStrict};
 ghost use Rattle.facet_json_grammar.specs.Tree.{Tree as SpecTree};
-ghost use Rattle.facet_json_reader.specs.declared.language.Language.{Language as TheLanguage};
+ghost use Rattle.facet_json_reader.specs.declared.place.Language.{Language as TheLanguage};
 ghost use Rattle.facet_json_grammar.specs.Now.{Now, fresh, fresh_in};
 ghost use Rattle.facet_json_grammar.specs.Move.{MovesAll};
 ghost use Rattle.facet_json_reader.specs.PlaceViews.{language_of};
@@ -20,28 +21,30 @@ ghost use Rattle.facet_json_core.specs.ScriptViews.{call_of, answer_of};
 ghost use Rattle.facet_json_serializer.specs.Serializer.{Writing as SpecWriting};
 ghost use Rattle.facet_json_serializer.specs.TreeCalls.{with_tree};
 ghost use Rattle.facet_json_core.specs.TranscodeViews.{IsTranscodeRefused, TranscodeLacksMemory, ErrorWithin as RefusesWithin};
-ghost use Rattle.facet_json_command.specs.declared.outcome.Outcome.TheVariants as outcome;
 ghost use Rattle.facet_json_command.specs.Arguments.{Command as SpecCommand, AskFor, AskForNothing, fmt, drive as drives};
 ghost use Rattle.facet_json_command.specs.OutcomeViews.{words_of, command_view};
 ghost use Rattle.facet_json_command.specs.Lines.{answer_lines};
 ghost use Rattle.facet_json_command.specs.Run.{IsDocumentIn, HasDocumentIn, layout, IsReformatted, IsRefusal, OutcomeWithin, Formats};
 ghost use Rattle.facet_json_command.specs.Run.{OnlyGrows, Prints, Lists, ListsTokens, Drives, AnswersInput, ForFmt, ForDrive};
-ghost use Rattle.facet_json_command.specs.Outcome.{IsFailure, IsFaultOfRun};
+ghost use Rattle.facet_json_command.specs.Outcome.{IsFailure, IsFaultOfRun, IsToldAs};
 ghost use Rattle.facet_json_command.specs.Session.{Marks, outcome_of};
+ghost use Rattle.std.specs.IoError.{error_kind};
+ghost use Rattle.facet_json_command.specs.Report.{line_of, status_of};
+ghost use Rattle.facet_json_command.specs.declared.run.Outcome.TheVariants as outcome;
 
 use crate::arguments::{Command, command_of};
 use crate::input::Input;
 use crate::lines::{write_answer, write_event};
-use crate::outcome::{OUT_OF_MEMORY, Outcome, Session};
 use crate::tokens::{scan_all, write_scanned};
-use facet_format::FormatParser;
+use facet_format::{FormatParser, Span};
 use facet_json_core::{Answer, Call, TranscodeError, drive, pass_end, transcode};
 use facet_json_parser::JsonParser;
 use facet_json_reader::Language;
 use facet_json_serializer::{JsonSerializer, SerializeOptions};
 use facet_json_token::{Mode, Trust};
 use std::alloc::{AllocError, Global};
-use std::io::{Read, Write};
+use std::io;
+use std::io::{ErrorKind, Read, Write};
 use std::vec::IntoIter;
 
 /// Does what the arguments after the program's name ask for. It writes in small pieces.
@@ -419,5 +422,139 @@ fn flushed<W: Write>(session: &mut Session, writer: &mut W, ended: Outcome) -> O
     match session.told(writer.flush()) {
         Ok(()) => ended,
         Err(failed) => failed,
+    }
+}
+
+/// How a run of the program ended.
+#[derive(Debug, Clone, Copy, PartialEq, Eq)]
+pub enum Outcome {
+    /// All of the answer is written.
+    Done,
+    /// The input was refused, or an allocation failed: the code of the refusal, and the bytes of the input that it is about,
+    /// where they are known.
+    Refused(u8, Option<Span>),
+    /// A read or a write failed.
+    Io,
+    /// The program has no command for these arguments.
+    Usage,
+}
+
+/// An allocation failed, which has no place in the input.
+pub const OUT_OF_MEMORY: Outcome = Outcome::Refused(9, None);
+
+/// How a call of the system that failed is answered. An allocation that failed in the midst of it is out of memory.
+pub fn failure(error: &io::Error) -> Outcome
+    ensures told { IsToldAs (error_kind error.now) result }
+    ensures fault { IsFaultOfRun result }
+{
+    failure_of(error.kind())
+}
+
+/// How a call of the system that failed with an error of this kind is answered.
+pub fn failure_of(kind: ErrorKind) -> Outcome
+    ensures told { IsToldAs kind result }
+    ensures fault { IsFaultOfRun result }
+{
+    if kind == ErrorKind::OutOfMemory {
+        OUT_OF_MEMORY
+    } else {
+        Outcome::Io
+    }
+}
+
+/// How it is answered that the arguments can't be had. One that is not text is wrong usage, and out of memory is none.
+pub fn without_arguments(error: &io::Error) -> Outcome
+    ensures usage { error_kind error.now ≡ ErrorKind.InvalidData → result ≡ outcome.Usage }
+    ensures memory { error_kind error.now ≡ ErrorKind.OutOfMemory → result ≡ outcome.Refused 9 None }
+    ensures ends { (result ≡ outcome.Usage) ⊎ IsFaultOfRun result }
+{
+    match error.kind() {
+        ErrorKind::InvalidData => Outcome::Usage,
+        _ => failure(error),
+    }
+}
+
+/// The line for wrong arguments.
+const USAGE: &str =
+    "usage: facet_json_tool fmt [--pretty] [--jsonc | --strict] | events [--jsonc | --strict] \
+    | tokens [--jsonc] | drive [--jsonc | --strict] SCRIPT";
+
+/// Writes the line for the standard error, if there is one. This does not allocate.
+pub fn write_line<W: Write>(outcome: Outcome, errors: &mut W) -> io::Result<()>
+    ensures { OnOk result (Appends (W.contents errors.old) (W.contents errors.new) (line_of outcome)) }
+{
+    match outcome {
+        Outcome::Done => Ok(()),
+        Outcome::Refused(code, None) => writeln!(errors, "error: {code}"),
+        Outcome::Refused(code, Some(span)) => {
+            let offset = span.offset;
+            let len = span.len;
+            writeln!(errors, "error: {code} at {offset}+{len}")
+        }
+        Outcome::Io => writeln!(errors, "error: io"),
+        Outcome::Usage => writeln!(errors, "{USAGE}"),
+    }
+}
+
+/// The exit status.
+pub fn status(outcome: Outcome) -> u8
+    ensures { result ≡ status_of outcome }
+{
+    match outcome {
+        Outcome::Done => 0,
+        Outcome::Refused(_, _) | Outcome::Io => 1,
+        Outcome::Usage => 2,
+    }
+}
+
+/// One run: where its memory comes from, and whether a read or a write has failed in it. A contract holds `Outcome::Io` to this
+/// mark: a function that ends with it has seen a call of the reader or the writer fail, and wants no memory.
+#[derive(Drop)]
+pub struct Session {
+    /// Where memory comes from.
+    pub alloc: Global,
+    /// Whether a read or a write has failed.
+    pub failed: bool,
+}
+
+impl Session {
+    /// A run in which nothing has failed.
+    pub fn new(alloc: Global) -> Session
+        ensures { result.failed ≡ false }
+    {
+        Session {
+            alloc,
+            failed: false,
+        }
+    }
+
+    /// How a write went. One that failed is never told as out of memory, whatever its error says: what the writer took of it
+    /// is not known.
+    pub fn told(&mut self, write: io::Result<()>) -> Result<(), Outcome>
+        ensures told { MatchResult result (λ u. write ≡ Ok u) (λ o. o ≡ outcome.Io) }
+        ensures marks { Marks self.old.failed self.new.failed (outcome_of result) }
+    {
+        match write {
+            Ok(()) => Ok(()),
+            Err(_) => {
+                self.failed = true;
+                Err(Outcome::Io)
+            }
+        }
+    }
+
+    /// How it ends the run that a read failed with an error of this kind.
+    pub fn unread(&mut self, kind: ErrorKind) -> Outcome
+        ensures told { IsToldAs kind result }
+        ensures fault { IsFaultOfRun result }
+        ensures marks { Marks self.old.failed self.new.failed result }
+    {
+        match failure_of(kind) {
+            Outcome::Io => {
+                self.failed = true;
+                Outcome::Io
+            }
+            memory => memory,
+        }
     }
 }

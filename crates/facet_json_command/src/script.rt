@@ -3,10 +3,10 @@
 ghost use Rattle.std.specs.Prelude.{◌≡◌, ◌≢◌, ◌⊎◌, ℕ, List, map, codes, None, IfOk, IfErr, MatchOption, slice_index};
 ghost use Rattle.facet_format.specs.Cursor.{Call as SpecCall};
 ghost use Rattle.facet_json_core.specs.ScriptViews.{call_of};
-ghost use Rattle.facet_json_command.specs.declared.outcome.Outcome.TheVariants as outcome;
+ghost use Rattle.facet_json_command.specs.declared.run.Outcome.TheVariants as outcome;
 ghost use Rattle.facet_json_command.specs.Script.{IsPointNumber, IsNumbered, IsWordOf, IsScript};
 
-use crate::outcome::{OUT_OF_MEMORY, Outcome};
+use crate::run::{OUT_OF_MEMORY, Outcome};
 use facet_json_core::Call;
 use std::alloc::Global;
 

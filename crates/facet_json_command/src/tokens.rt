@@ -6,7 +6,7 @@ ghost use Rattle.facet_format.specs.Views.{hint_of};
 ghost use Rattle.facet_json_token.specs.Gap.{Mode as SpecMode};
 ghost use Rattle.facet_json_token.specs.Views.{mode_of};
 ghost use Rattle.facet_json_scan.specs.Listed.{mode_with, AreTokensOf, ScanRefusalWithin};
-ghost use Rattle.facet_json_command.specs.declared.outcome.Outcome.TheVariants as outcome;
+ghost use Rattle.facet_json_command.specs.declared.run.Outcome.TheVariants as outcome;
 ghost use Rattle.facet_json_command.specs.TokenLines.{hint_name};
 ghost use Rattle.facet_json_command.specs.TokenViews.{text_of_token, code_of_kind};
 ghost use Rattle.facet_json_command.specs.Run.{OutcomeWithin, Prints, ListsTokens};
@@ -15,7 +15,7 @@ ghost use Rattle.facet_json_command.specs.Outcome.{IsFaultOfRun, IsToldAs};
 
 use crate::input::Input;
 use crate::lines::{write_place, write_value};
-use crate::outcome::{OUT_OF_MEMORY, Outcome, Session};
+use crate::run::{OUT_OF_MEMORY, Outcome, Session};
 use facet_format::Span;
 use facet_format::numeral::NumberHint;
 use facet_json_scan::{ScanReadError, Scanned, scan_reader};

@@ -6,7 +6,7 @@ use Rattle.facet_format.specs.Cursor.{Call, Answer}
 use Rattle.facet_format.specs.Event.{Event}
 use Rattle.facet_format.specs.Span.{Span}
 use Rattle.facet_format.specs.Views.{span_of as span_of_rust}
-use Rattle.facet_format.specs.declared.span.Span.{Span as RustSpan}
+use Rattle.facet_format.specs.declared.event.Span.{Span as RustSpan}
 use Rattle.facet_json_grammar.specs.CallLaws.{refusal_in}
 use Rattle.facet_json_grammar.specs.Move.{Moves}
 use Rattle.facet_json_grammar.specs.Next.{PassesNext, IsOver}

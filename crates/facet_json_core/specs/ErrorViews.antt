@@ -1,7 +1,7 @@
 -- What the types of the code stand for in the definitions.
 use Rattle.std.specs.Prelude.{List, ℕ, map, Option, Some, None, string_bytes}
 use Rattle.std.specs.Option.{option_map}
-use Rattle.facet_format.specs.declared.span.Span.{Span}
+use Rattle.facet_format.specs.declared.event.Span.{Span}
 use Rattle.facet_format.specs.Views.{complaint_of}
 use Rattle.facet_json_token.specs.declared.token.ScanErrorKind.{ScanErrorKind}
 use Rattle.facet_json_token.specs.declared.token.ScanErrorKind.TheVariants as scan

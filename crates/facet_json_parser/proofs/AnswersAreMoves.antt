@@ -16,7 +16,7 @@ use Rattle.facet_json_grammar.specs.Move.{Moves, without_point}
 use Rattle.facet_json_grammar.specs.Next.{PassesNext, ShowsNext, IsOver}
 use Rattle.facet_json_grammar.proofs.MoveLaws.{with_cursor}
 use Rattle.facet_json_grammar.proofs.MovesNext.{next-passes, next-over, peek-shows, peek-over}
-use Rattle.facet_json_reader.specs.declared.language.Language.{Language}
+use Rattle.facet_json_reader.specs.declared.place.Language.{Language}
 use Rattle.facet_json_reader.specs.declared.refusal.Refused.{Refused}
 use Rattle.facet_json_reader.specs.PlaceViews.{language_of, refused_of}
 use Rattle.facet_json_parser.specs.declared.lookahead.Lookahead.{Lookahead as RustLookahead}

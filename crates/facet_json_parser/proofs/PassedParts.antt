@@ -2,7 +2,7 @@
 use Rattle.std.specs.Prelude.{MatchResult, slice_range, codes}
 use Rattle.std.specs.Str.{is_utf8}
 use Rattle.std.proofs.Common.{◌≡◌, ◌∙◌, ◌-◌, inl, inr, ℕ, Bool, true, false, not, List, Result, Ok, Err, refl, sym, ap}
-use Rattle.facet_format.specs.declared.span.Span.{Span as RustSpan}
+use Rattle.facet_format.specs.declared.event.Span.{Span as RustSpan}
 use Rattle.facet_json_token.specs.declared.token.SpannedToken.{SpannedToken}
 use Rattle.facet_json_reader.specs.declared.refusal.Refused.{Refused}
 use Rattle.facet_json_parser.specs.declared.part.Part.TheVariants as parts

@@ -3,7 +3,7 @@ use Rattle.std.specs.Prelude.{ℕ, List, map, Option}
 use Rattle.std.specs.Option.{option_map}
 use Rattle.facet_json_parser.specs.declared.lookahead.Lookahead.{Lookahead as RustLookahead}
 use Rattle.facet_json_parser.specs.declared.points.Point.{Point}
-use Rattle.facet_json_reader.specs.declared.language.Language.{Language}
+use Rattle.facet_json_reader.specs.declared.place.Language.{Language}
 use Rattle.facet_json_reader.specs.declared.refusal.Refused.{Refused}
 use Rattle.facet_format.specs.Complaint.{Refusal}
 use Rattle.facet_format.specs.Cursor.{Spot, Cursor}

@@ -4,8 +4,8 @@
 //! - `log_filter --where NAME=VALUE [FILE..]` copies the records of logs whose member of that name has that value.
 //! - `message_core` answers requests of JSON-RPC 2.0, a request a line: `sum` and `length`, and `echo` with its parameters as they stand.
 //! - `validate [OPTION VALUE].. [FILE]` checks a document by its events. `--depth`, `--items` and `--length` set limits of how deep its
-//!   containers   nest, how many values one of them has, and how many bytes a key or a scalar. `--require POINTER=KIND` says what has to be
-//!   there, as   `/listen/port=number`; kinds are `null`, `bool`, `number`, `string`, `array`, `object`.
+//!   containers nest, how many values one of them has, and how many bytes a key or a scalar. `--require POINTER=KIND` says what has to be
+//!   there, as `/listen/port=number`; kinds are `null`, `bool`, `number`, `string`, `array`, `object`.
 //!
 //! The status is 0 where all is fine, 1 where something is wrong with what was read, and 2 where a file can't be read, also where it is not
 //! UTF-8, or the arguments are others. A wrong request is answered as such, with status 0.

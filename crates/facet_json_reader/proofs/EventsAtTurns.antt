@@ -2,7 +2,7 @@
 use Rattle.std.proofs.Common.{◌≡◌, ◌∙◌, ℕ, ◌&&◌, Bool, true, false, cond, List, Option, Some, None, refl, sym, ap, ap₂, subst, inl, inr}
 use Rattle.std.specs.Prelude.{ℕ, List, ◌⊎◌, IsSome, is_none, slice_range}
 use Rattle.std.specs.Option.{option_map}
-use Rattle.facet_format.specs.declared.span.Span.{Span as RustSpan}
+use Rattle.facet_format.specs.declared.event.Span.{Span as RustSpan}
 use Rattle.facet_json_token.specs.declared.token.SpannedToken.{SpannedToken}
 use Rattle.facet_json_reader.specs.declared.place.Turn.{Turn as RustTurn}
 use Rattle.facet_json_reader.specs.declared.place.Turn.TheVariants as turns

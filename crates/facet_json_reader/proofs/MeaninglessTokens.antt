@@ -2,7 +2,7 @@
 use Rattle.std.proofs.Common.{◌≡◌, ℕ, Bool, true, false, List, refl, sym, ap, ◌∙◌}
 use Rattle.std.specs.Prelude.{slice_range}
 use Rattle.std.specs.Option.{option_map}
-use Rattle.facet_format.specs.declared.span.Span.{Span as RustSpan}
+use Rattle.facet_format.specs.declared.event.Span.{Span as RustSpan}
 use Rattle.facet_format.specs.Complaint.{Refusal, refusal_at, invalid_utf8}
 use Rattle.facet_format.specs.Views.{span_of}
 use Rattle.facet_json_token.specs.DecodeViews.{IsItsText, IsFirstRefusal}

@@ -2,8 +2,8 @@
 use Rattle.std.specs.Prelude.{ℕ}
 use Rattle.facet_json_token.specs.Gap.{plain, jsonc}
 use Rattle.facet_json_grammar.specs.Language.{Language, lenient, strict}
-use Rattle.facet_json_reader.specs.declared.language.Language.{Language as RustLanguage}
-use Rattle.facet_json_reader.specs.declared.language.Language.TheVariants as languages
+use Rattle.facet_json_reader.specs.declared.place.Language.{Language as RustLanguage}
+use Rattle.facet_json_reader.specs.declared.place.Language.TheVariants as languages
 
 abbrev pub language_of : RustLanguage → Language
 language_of languages.Plain = lenient plain

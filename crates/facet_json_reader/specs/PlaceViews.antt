@@ -24,7 +24,7 @@ use Rattle.facet_format.specs.Complaint as complaint
 use Rattle.facet_format.specs.Event.{ContainerKind, object, array, EventKind}
 use Rattle.facet_format.specs.Event as event
 use Rattle.facet_format.specs.Views.{span_of, container_of}
-use Rattle.facet_format.specs.declared.span.Span.{Span as RustSpan}
+use Rattle.facet_format.specs.declared.event.Span.{Span as RustSpan}
 use Rattle.facet_json_token.specs.declared.fault.Fault.{Fault as RustFault}
 use Rattle.facet_json_token.specs.Cut.{fault}
 use Rattle.facet_json_token.specs.Strict.{strict_fault}

@@ -1,7 +1,7 @@
 -- What tokens of the code stand for, where their texts and numbers have been read.
 use Rattle.std.specs.Prelude.{◌≡◌, ◌+◌, ◌≤◌, ◌==◌, ℕ, Bool, true, false, List, Option, Some, None, IsSome, length, slice_range}
 use Rattle.std.specs.List.{list_any}
-use Rattle.facet_format.specs.declared.span.Span.{Span as RustSpan}
+use Rattle.facet_format.specs.declared.event.Span.{Span as RustSpan}
 use Rattle.facet_json_token.specs.declared.token.Token.{Token as RustToken}
 use Rattle.facet_json_token.specs.declared.token.Token.TheVariants as code
 use Rattle.facet_json_reader.specs.declared.materialized.TokenKind.{TokenKind}

@@ -3,9 +3,6 @@
 //! (`Refused`).
 #![tactic(auto)]
 
-mod contexts;
-mod event;
-mod language;
 mod materialized;
 mod number;
 mod place;
@@ -16,12 +13,10 @@ mod step;
 mod text;
 mod wanted;
 
-pub use contexts::Contexts;
-pub use language::Language;
 pub use materialized::{MaterializedToken, TokenKind};
 pub use number::Whole;
-pub use place::{Place, Turn};
-pub use reader::{Held, Reader, Stage};
+pub use place::{Language, Place, Turn};
+pub use reader::{Contexts, Held, Reader, Stage};
 pub use refusal::{Expected, Name, NoRaw, Refused, Why};
 pub use sought::Sought;
 pub use wanted::{ListEnd, ListStart, Member, Null, ObjectStart, Wanted};

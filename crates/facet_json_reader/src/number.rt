@@ -23,7 +23,7 @@ ghost use Rattle.facet_json_reader.specs.PlaceViews.{language_of};
 ghost use Rattle.facet_json_reader.specs.Inner.Digits.{word};
 ghost use Rattle.facet_format.specs.Bytes.{minus, dot, is_exponent_mark};
 
-use crate::language::Language;
+use crate::place::Language;
 use facet_format::numeral::{NumberHint, Parts, no_digits, parts_at};
 use facet_format::{Decimal, ScalarValue};
 use facet_json_token::{ParsedNumber, has_rfc_parts, measured_decimal, measured_number};

@@ -7,7 +7,7 @@ ghost use Rattle.facet_json_reader.specs.PlaceViews.{language_of};
 ghost use Rattle.facet_json_reader.specs.Inner.Quick.{ComesNo};
 ghost use Rattle.facet_json_reader.specs.Inner.Soughts.{event_of_sought, byte_of_sought};
 
-use crate::language::Language;
+use crate::place::Language;
 use crate::reader::Reader;
 
 /// What a caller looks for before a value.

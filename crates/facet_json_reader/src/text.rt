@@ -9,7 +9,7 @@ ghost use Rattle.std.specs.List.{prefix_len};
 ghost use Rattle.std.specs.Simd.Lanes.{mask_l};
 ghost use Rattle.facet_json_reader.specs.Inner.Window.{is_stop_from, is_unescaped, is_mark, is_ordinary};
 
-use crate::language::Language;
+use crate::place::Language;
 use facet_json_token::{Trust, plain_text_unchecked, quoted_text};
 use std::simd::prelude::*;
 use std::str;

@@ -7,8 +7,8 @@ ghost use Rattle.facet_format.specs.Views.{span_of};
 ghost use Rattle.facet_json_reader.specs.PlaceViews.{language_of};
 ghost use Rattle.facet_json_reader.specs.Inner.Quick.{PassesQuickly};
 
-use crate::language::Language;
 use crate::number::{Whole, short_decimal_in, short_whole_in};
+use crate::place::Language;
 use crate::reader::Reader;
 use crate::text::text_at;
 use facet_format::{ContainerKind, Decimal, Span};

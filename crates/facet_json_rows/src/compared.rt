@@ -104,7 +104,7 @@ pub fn compare(
     written: &mut Told,
 ) {
     let ([language, ..], [way, ..]) = (languages, ways) else {
-        return written.line("NO MODE");
+        return written.line("NO LANGUAGE");
     };
     let mut told = Told::new(alloc);
     ask(checked_reading(alloc, *language, input), *way, &mut told);

@@ -1,8 +1,7 @@
 //! Runs of the program over readers and writers that fail at one of their calls.
 
 use crate::scans::{Scan, with_failed_scan};
-use facet_json_command::outcome::{OUT_OF_MEMORY, Outcome};
-use facet_json_command::run::run;
+use facet_json_command::run::{OUT_OF_MEMORY, Outcome, run};
 use facet_json_row_values::told::Told;
 use std::alloc::Global;
 use std::io;

@@ -15,7 +15,7 @@ use facet_json_row_values::words::{first_word, languages};
 use std::alloc::{AllocError, Global};
 use std::collections::VecDeque;
 
-/// Tells what the calls answer: `parser MODE TRUST SCRIPT`, `queue MODE TRUST LIMIT`, `scan MODE STEP` or `scanner`; or
+/// Tells what the calls answer: `parser LANGUAGE TRUST SCRIPT`, `queue LANGUAGE TRUST LIMIT`, `scan MODE STEP` or `scanner`; or
 /// `read ENTRY TYPE`.
 pub fn answer_marked(alloc: Global, words: &str, input: &[u8], told: &mut Told) {
     let (name, words) = first_word(words);
@@ -24,7 +24,7 @@ pub fn answer_marked(alloc: Global, words: &str, input: &[u8], told: &mut Told) 
     }
     let (language, words) = first_word(words);
     let Some(language) = languages(language).first() else {
-        return told.line("NO MODE");
+        return told.line("NO LANGUAGE");
     };
     let (trust, calls) = first_word(words);
     let reading = Reading {

@@ -2,7 +2,7 @@
 
 use crate::faults::{Case, FaultyReader, run_over, write_untold};
 use facet_json::Span;
-use facet_json_command::outcome::{OUT_OF_MEMORY, Outcome, status, write_line};
+use facet_json_command::run::{OUT_OF_MEMORY, Outcome, status, write_line};
 use facet_json_row_values::told::Told;
 use std::alloc::Global;
 use std::io::ErrorKind;

@@ -134,8 +134,8 @@ pub fn range(words: &str, len: usize) -> Option<(usize, usize)>
     }
 }
 
-/// Tells what parsers of the input tell: `MODES all`, `MODES skips`, `MODES captures`, `MODES cuts`, `MODES first COUNT` or
-/// `MODES SCRIPT`.
+/// Tells what parsers of the input tell: `LANGUAGE all`, `LANGUAGE skips`, `LANGUAGE captures`, `LANGUAGE cuts`,
+/// `LANGUAGE first COUNT` or `LANGUAGE SCRIPT`.
 pub fn answer_parser(alloc: Global, words: &str, input: &[u8], told: &mut Told) {
     let (word, asked) = first_word(words);
     let languages = languages(word);

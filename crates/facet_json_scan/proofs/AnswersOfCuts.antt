@@ -5,7 +5,7 @@ use Rattle.std.proofs.lemmas.List.{length-drop}
 use Rattle.std.proofs.lemmas.Option.{slice_get_within}
 use Rattle.facet_json_token.specs.declared.token.Token.{Token as RustToken}
 use Rattle.facet_json_token.specs.declared.token.Token.TheVariants as code
-use Rattle.facet_format.specs.declared.span.Span.{Span as RustSpan}
+use Rattle.facet_format.specs.declared.event.Span.{Span as RustSpan}
 use Rattle.facet_json_token.specs.declared.token.SpannedToken.{SpannedToken}
 use Rattle.facet_json_token.specs.declared.token.ScanErrorKind.{ScanErrorKind}
 use Rattle.facet_json_token.specs.declared.token.ScanErrorKind.TheVariants as scan

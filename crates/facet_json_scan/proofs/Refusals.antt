@@ -6,7 +6,7 @@ use Rattle.facet_format.specs.Bytes.{minus}
 use Rattle.facet_format.specs.NumberParts.{Parts, parts, parts_len, parts_hint, is_bare}
 use Rattle.facet_format.specs.Span.{Span}
 use Rattle.facet_format.specs.Views.{span_of}
-use Rattle.facet_format.specs.declared.span.Span.{Span as RustSpan}
+use Rattle.facet_format.specs.declared.event.Span.{Span as RustSpan}
 use Rattle.facet_json_token.specs.declared.token.SpannedToken.{SpannedToken}
 use Rattle.facet_json_token.specs.declared.token.ScanErrorKind.{ScanErrorKind}
 use Rattle.facet_json_token.specs.declared.token.ScanErrorKind.TheVariants as scan

@@ -1,6 +1,6 @@
 -- Where an error points.
 use Rattle.std.specs.Prelude.{◌+◌, ◌≤◌, ℕ, Option, Some, None, ⊤}
-use Rattle.facet_format.specs.declared.span.Span.{Span}
+use Rattle.facet_format.specs.declared.event.Span.{Span}
 use Rattle.facet_json_serde.specs.declared.streams.StreamError.{StreamError}
 use Rattle.facet_json_serde.specs.declared.streams.StreamError.TheVariants.{Json, Io}
 

@@ -1,6 +1,6 @@
 -- What an error says that says what a fault says.
 use Rattle.std.proofs.Common.{◌≡◌, ℕ, Some, refl, ap, ◌∙◌}
-use Rattle.facet_format.specs.declared.span.Span.{Span as RustSpan}
+use Rattle.facet_format.specs.declared.event.Span.{Span as RustSpan}
 use Rattle.facet_json_token.specs.declared.fault.FaultKind.TheVariants as faults
 use Rattle.facet_json_token.specs.declared.fault.Fault.{Fault}
 use Rattle.facet_json_token.specs.declared.token.ScanErrorKind.{ScanErrorKind}

@@ -7,7 +7,7 @@ use Rattle.std.specs.List.{prefix_len, starts_with}
 use Rattle.facet_format.specs.Bytes.{is_space, slash, space, tab, line_feed, carriage_return, minus}
 use Rattle.facet_format.specs.NumberParts.{parts}
 use Rattle.facet_format.specs.Views.{span_of}
-use Rattle.facet_format.specs.declared.span.Span.{Span as RustSpan}
+use Rattle.facet_format.specs.declared.event.Span.{Span as RustSpan}
 use Rattle.facet_json_token.specs.Gap.{Mode, plain, jsonc, whole}
 use Rattle.facet_json_token.specs.GapLen.{piece_len, gap_len}
 use Rattle.facet_json_token.specs.Cut.{Cut, Start, punctuation, letter, start_of, token_at, cut_by, cut_word, common_len, past_gap}

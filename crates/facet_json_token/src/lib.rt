@@ -16,7 +16,6 @@ mod rfc_number;
 mod rfc_string;
 mod runs;
 mod token;
-mod unescaped;
 
 pub use cutting::cut;
 pub use decode::{
@@ -30,7 +29,7 @@ pub use number::{
     ParsedNumber, measured_decimal, measured_number, no_number, parse_number,
     parse_number_unchecked,
 };
+pub use quick::{plain_text, plain_text_unchecked, quoted_text};
 pub use rfc_number::{check_number_strict, has_rfc_parts};
 pub use rfc_string::check_string_strict;
 pub use token::{ScanError, ScanErrorKind, ScanResult, SpannedToken, Token};
-pub use unescaped::{plain_text, plain_text_unchecked, quoted_text};

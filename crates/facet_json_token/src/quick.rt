@@ -1,23 +1,30 @@
 //! What a few bytes decide: tokens that the bytes after an offset show whole (all but faults, strings with escapes, and what stands after
-//! comments or at the end), and the ends of gaps and texts, for readers that make no token of them. Everything else is left to `cutting`.
+//! comments or at the end), the ends of gaps and texts, for readers that make no token of them, and texts in which no backslash stands.
+//! Everything else is left to `cutting` and `decode`.
 
 ghost use Rattle.std.specs.Prelude.{◌≡◌, ℕ, ◌+◌, ◌-◌, ◌<◌, ◌≤◌, false, length, drop, Some, slice_get, IfNone, IfSome, MatchOption, true};
+ghost use Rattle.std.specs.Prelude.{slice_range, IsUtf8};
 ghost use Rattle.facet_format.specs.Bytes.{quote, space, is_space};
 ghost use Rattle.facet_json_token.specs.Gap.{Mode as SpecMode};
 ghost use Rattle.facet_json_token.specs.Token.{string, Kind};
-ghost use Rattle.facet_json_token.specs.Cut.{cut_here, past_gap, token_at};
+ghost use Rattle.facet_json_token.specs.Cut.{cut_here, past_gap, token_at, has_backslash};
 ghost use Rattle.facet_json_token.specs.Views.{mode_of, kind_of};
 ghost use Rattle.facet_format.specs.NumberParts.{parts, parts_len, parts_hint, is_bare};
-ghost use Rattle.facet_json_token.specs.Cut as spec_cut;
 ghost use Rattle.facet_json_token.specs.Shape.{IsStructural};
 ghost use Rattle.facet_json_token.specs.Inner.InSight.{told};
+ghost use Rattle.facet_json_token.specs.Decoded.{decoded};
+ghost use Rattle.facet_json_token.specs.Quoted.{IsQuoted};
+ghost use Rattle.facet_json_token.specs.DecodeViews.{IsItsText};
+ghost use Rattle.facet_json_token.specs.Cut as spec_cut;
 
+use crate::ascii::ascii_text;
 use crate::cutting::skip_gap;
 use crate::mode::Mode;
 use crate::runs::{Blank, Plain, run_end};
 use crate::token::{SpannedToken, Token};
 use facet_format::Span;
 use facet_format::numeral::parts_at;
+use std::str;
 
 /// The offset of the quote that closes the string whose quote is at `at`, where no escape stands in it.
 #[inline(always)]
@@ -223,4 +230,47 @@ pub(crate) fn number_in_sight(buffer: &[u8], at: usize) -> Option<SpannedToken>
         hint: parts.hint(),
     };
     Some(spanned(token, at, len))
+}
+
+/// The content of a string that stands in `buf[start..end]`, where that is UTF-8: what `decode_string_borrowed` gives of a content
+/// in which no backslash stands.
+#[inline(always)]
+pub fn plain_text(buf: &[u8], start: usize, end: usize) -> Option<&str>
+    requires in_order { start ≤ end }
+    requires in_range { end ≤ length buf.now }
+    requires plain { has_backslash (slice_range buf.now start end) ≡ false }
+    ensures borrowed { MatchOption result (IsUtf8 (slice_range buf.now start end) → ⊥)
+        (λ s. (s.now ≡ slice_range buf.now start end) × IsItsText (slice_range buf.now start end)) }
+    ensures text { IfSome result (λ s. decoded (slice_range buf.now start end) ≡ Some s.now) }
+{
+    match ascii_text(buf, start, end) {
+        Some(text) => Some(text),
+        None => str::from_utf8(&buf[start..end]).ok(),
+    }
+}
+
+/// As `plain_text`, for a content in UTF-8, which is its text.
+#[inline(always)]
+pub fn plain_text_unchecked(buf: &[u8], start: usize, end: usize) -> &str
+    requires in_order { start ≤ end }
+    requires in_range { end ≤ length buf.now }
+    requires plain { has_backslash (slice_range buf.now start end) ≡ false }
+    requires utf8 { IsUtf8 (slice_range buf.now start end) }
+    ensures borrowed { result.now ≡ slice_range buf.now start end }
+    ensures text { decoded (slice_range buf.now start end) ≡ Some result.now }
+{
+    // The last requirement is what the call needs.
+    unsafe { str::from_utf8_unchecked(&buf[start..end]) }
+}
+
+/// As `plain_text`, for a content between its quotes in a buffer in UTF-8: it is its text, and not checked again.
+#[inline(always)]
+pub fn quoted_text(buf: &[u8], start: usize, end: usize) -> &str
+    requires quoted { IsQuoted buf.now start end }
+    requires plain { has_backslash (slice_range buf.now start end) ≡ false }
+    requires utf8 { IsUtf8 buf.now }
+    ensures borrowed { result.now ≡ slice_range buf.now start end }
+    ensures text { decoded (slice_range buf.now start end) ≡ Some result.now }
+{
+    plain_text_unchecked(buf, start, end)
 }

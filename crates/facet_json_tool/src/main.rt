@@ -3,13 +3,12 @@
 #![tactic(auto)]
 
 ghost use Rattle.std.specs.Prelude.{◌≡◌, ◌⊎◌, IfErr};
-ghost use Rattle.facet_json_command.specs.declared.outcome.Outcome.TheVariants as outcome;
+ghost use Rattle.facet_json_command.specs.declared.run.Outcome.TheVariants as outcome;
 ghost use Rattle.facet_json_command.specs.Outcome.{IsFaultOfRun};
 
-use facet_json_command::outcome::{
-    OUT_OF_MEMORY, Outcome, failure, status, without_arguments, write_line,
+use facet_json_command::run::{
+    OUT_OF_MEMORY, Outcome, failure, run, status, without_arguments, write_line,
 };
-use facet_json_command::run::run;
 use std::env;
 use std::io::BufWriter;
 use std::process::ExitCode;

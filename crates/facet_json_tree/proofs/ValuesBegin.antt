@@ -1,7 +1,7 @@
 -- How a value begins: with a whole tree or an empty container, or refused at its first event.
 use Rattle.std.proofs.Common.{◌≡◌, ◌≢◌, ◌≤◌, ◌+◌, inl, ℕ, Bool, true, false, List, Option, None, Some, Ok, refl, ap, subst, ◌∙◌}
 use Rattle.std.specs.Option.{IfSome}
-use Rattle.facet_format.specs.declared.span.Span.{Span}
+use Rattle.facet_format.specs.declared.event.Span.{Span}
 use Rattle.facet_format.specs.Complaint.{Refusal}
 use Rattle.facet_format.specs.Cursor.{next, event}
 use Rattle.facet_format.specs.Event.{Event, EventKind, Scalar, scalar, null, unit, bool, char, i64, u64, i128, u128, decimal, text, bytes, struct_start, struct_end, sequence_start, sequence_end, field_key, Passed}

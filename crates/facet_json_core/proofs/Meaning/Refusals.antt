@@ -3,7 +3,7 @@ use Rattle.std.proofs.Common.{◌≡◌, Ok, List, ℕ, Option, None, Some, refl
 use Rattle.facet_format.specs.Cursor.{Answer, spans, Cursor, World, skip, skipped, capture, raw, Step, repeats, skips, skips_without_memory, skips_nothing, captures, captures_without_memory, captures_nothing}
 use Rattle.facet_format.specs.Span.{Span}
 use Rattle.facet_format.specs.Views.{answer_of_span, span_of}
-use Rattle.facet_format.specs.declared.span.Span.{Span as RustSpan}
+use Rattle.facet_format.specs.declared.event.Span.{Span as RustSpan}
 use Rattle.facet_json_grammar.specs.Move.{Moves}
 use Rattle.facet_json_grammar.specs.Now.{Now, on_input}
 use Rattle.facet_json_core.specs.Refusing.{ComesTo}

@@ -6,7 +6,7 @@ use Rattle.facet_format.specs.Span.{span_at}
 use Rattle.facet_format.specs.Views.{span_of}
 use Rattle.facet_json_token.specs.Tokens.{ended}
 use Rattle.facet_json_scan.specs.Listed.{tokens_of_list, rest_after, AreAllOf}
-use Rattle.facet_json_command.specs.declared.outcome.Outcome.TheVariants.{Refused}
+use Rattle.facet_json_command.specs.declared.run.Outcome.TheVariants.{Refused}
 use Rattle.facet_json_command.specs.Lines.{place_line}
 use Rattle.facet_json_command.specs.TokenViews.{text_of_token}
 use Rattle.facet_json_command.specs.Run.{Prints, ListsTokens}
