@@ -1,10 +1,9 @@
 -- Numbers that are digits alone.
-use Rattle.std.proofs.Common.{◌≡◌, ◌≢◌, ℕ, zero, suc, ◌+◌, ◌<◌, ◌^◌, cond, ap, Some, None, true, false, List, [], ◌∷◌, ◌++◌, length, take, get_or, refl, sym, ◌∙◌, subst, arith}
+use Rattle.std.proofs.Common.{◌≡◌, ◌≢◌, ℕ, zero, suc, ◌+◌, ◌<◌, ◌^◌, cond, ap, Some, None, true, false, List, [], ◌∷◌, length, take, get_or, sym, ◌∙◌, subst, arith}
 use Rattle.std.specs.Prelude.{◌==◌, nat_lt}
-use Rattle.std.proofs.lemmas.List.{append-nil}
 use Rattle.std.proofs.lemmas.Bool.{lt-ltb}
-use Rattle.facet_format.specs.Bytes.{is_digit, minus}
-use Rattle.facet_format.specs.Number.{AreDigits, none, digit, IsMinus, IsFraction, IsExponent, unsigned}
+use Rattle.facet_format.specs.Bytes.{is_digit}
+use Rattle.facet_format.specs.Number.{AreDigits, none, digit, unsigned}
 use Rattle.facet_format.specs.NumberValue.{unsigned_number, u64, u128, digits_value, number}
 use Rattle.facet_format.specs.NumberParts.{is_number}
 use Rattle.facet_format.proofs.DigitNumbers.{digits-number as digits-are_number}

@@ -1,14 +1,14 @@
 -- What is written of a whole number, and the text of a decimal, is one scalar's token.
-use Rattle.std.proofs.Common.{◌≡◌, ◌≢◌, ℕ, suc, ◌-◌, ◌^◌, ◌<◌, Bool, true, false, List, [], ◌∷◌, ◌++◌, length, drop, Some, ℤ, pos, negsuc, refl, sym, ap, ◌∙◌, arith, append-nil}
+use Rattle.std.proofs.Common.{◌≡◌, ◌≢◌, ℕ, suc, ◌-◌, ◌^◌, ◌<◌, Bool, true, false, List, [], ◌∷◌, length, Some, ℤ, pos, negsuc, refl, ap, ◌∙◌, arith}
 use Rattle.std.specs.Prelude.{nat_lt}
 use Rattle.std.specs.Fmt.{decimal, signed_decimal}
 use Rattle.std.specs.Str.Parse.{AllDigits}
-use Rattle.std.proofs.lemmas.Bool.{both_ways, ltb-true, ltb-false, lt-ltb, le-leb, lt-leb}
+use Rattle.std.proofs.lemmas.Bool.{ltb-true, ltb-false, lt-ltb, le-leb, lt-leb}
 use Rattle.std.proofs.lemmas.Fmt.{decimal_is_IsNumeral_wide}
 use Rattle.std.proofs.lemmas.List.{take_all}
 use Rattle.std.proofs.lemmas.Str.Parse.{IsNumeralModel, tells_digits, numerals_by_fold}
-use Rattle.facet_format.specs.Bytes.{minus, is_digit}
-use Rattle.facet_format.specs.Number.{unsigned, signed, float, AreDigits, IsMinus, IsFraction, IsExponent, IsNumber}
+use Rattle.facet_format.specs.Bytes.{minus}
+use Rattle.facet_format.specs.Number.{unsigned, signed, float, AreDigits}
 use Rattle.facet_format.specs.NumberValue.{Number, digits_value, unsigned_number, negative_number, number}
 use Rattle.facet_format.specs.NumberParts.{parts}
 use Rattle.facet_format.specs.NumberValue as numbers

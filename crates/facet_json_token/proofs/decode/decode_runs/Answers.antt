@@ -1,5 +1,4 @@
 -- What was appended to nothing is the text; only a lack of memory refuses what has one.
-use Rattle.std.proofs.Common.{◌≡◌}
 use Rattle.facet_json_token.proofs.DecodeLaws.{decoded-decodes}
 use Rattle.facet_json_token.proofs.FaultSteps.{refused-memory}
 use Rattle.facet_json_token.proofs.decode.decode_runs.Goals as goal
