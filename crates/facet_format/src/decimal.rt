@@ -17,7 +17,7 @@ use std::alloc::{AllocError, Global};
 use std::borrow::CowStr;
 use std::marker::Model;
 
-/// The text of a number with a fraction or an exponent, as it stands (RFC 8259, section 6, leniently): runs of digits
+/// The text of a number with a fraction or an exponent, verbatim (RFC 8259, section 6, leniently): runs of digits
 /// may be empty, but a digit stands before any exponent mark, and one after it. Two are equal where their texts are.
 #[derive(Debug)]
 pub struct Decimal<'a>(CowStr<'a>);

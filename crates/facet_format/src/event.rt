@@ -60,7 +60,7 @@ pub enum FieldLocationHint {
     KeyValue,
 }
 
-/// The name of a field, and where it stands.
+/// The name of a field, and its place.
 #[derive(Debug, PartialEq, Drop)]
 pub struct FieldKey<'a> {
     /// The name.
@@ -178,7 +178,7 @@ impl<'a> ParseEventKind<'a> {
     }
 }
 
-/// A piece of a document, and where it stands.
+/// A piece of a document, and its place.
 ///
 /// Of `{"a":[1]}` the events are `StructStart` at 0+1, `FieldKey` of `a` at 1+3, `SequenceStart` at 5+1, `Scalar` of
 /// `U64(1)` at 6+1, `SequenceEnd` at 7+1 and `StructEnd` at 8+1.

@@ -13,7 +13,7 @@ use crate::line::{
 use std::fmt;
 
 /// A place in a source. Displayed, it is its line and column, then the text of the line, and then carets below what is meant, as far
-/// as it stands on that line: three lines, the last without its line feed. Under a tab stands a tab, so the carets stand
+/// as it is on that line: three lines, the last without its line feed. Under a tab stands a tab, so the carets stand
 /// right however wide a tab is shown.
 ///
 /// ```text

@@ -37,7 +37,7 @@ pub trait FormatParser<'de> {
         ensures steps { IsStep at self.old peek (answer_of_event result) self.new }
         ensures lowers { ahead self.new ≤ ahead self.old };
 
-    /// Appends the next events to the queue, up to so many, and answers how many they are. Where a refusal comes, the
+    /// Appends the next events to the queue, up to so many, and returns how many they are. Where a refusal comes, the
     /// events before it are appended.
     fn next_events<'t>(
         &mut self,
@@ -49,20 +49,20 @@ pub trait FormatParser<'de> {
         ensures lowers { ahead self.new ≤ ahead self.old }
         ensures shorter { IfOk result (λ n. ahead self.new + n ≤ ahead self.old) };
 
-    /// Passes the next value with all that it holds, or the next key or end, and decodes nothing.
+    /// Skips the next value with all that it holds, or the next key or end, and decodes nothing.
     fn skip_value<'t>(&mut self) -> Result<(), ParseError<'t>>
         ensures steps { IsStep at self.old skip (answer_of_skip result) self.new }
         ensures lowers { ahead self.new ≤ ahead self.old }
         ensures shorter { IfOk result (λ _. ahead self.new < ahead self.old) };
 
-    /// Passes the next value with all that it holds, and answers its bytes as they stand in the input, where the parser has all
+    /// Consumes the next value with all that it holds, and returns its bytes as they are in the input, where the parser has all
     /// of it.
     fn capture_raw<'t>(&mut self) -> Result<Option<&'de str>, ParseError<'t>>
         ensures steps { IsStep at self.old capture (answer_of_capture result) self.new }
         ensures lowers { ahead self.new ≤ ahead self.old }
         ensures shorter { IfOk result (λ _. ahead self.new < ahead self.old) };
 
-    /// Keeps where it stands, under a number of its own.
+    /// Saves its position, under a number of its own.
     fn save<'t>(&mut self) -> Result<SavePoint, ParseError<'t>>
         ensures steps { IsStep at self.old save (answer_of_save result) self.new }
         ensures lowers { ahead self.new ≤ ahead self.old };

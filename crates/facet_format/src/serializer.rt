@@ -54,11 +54,11 @@ pub trait FormatSerializer {
     fn scalar(&mut self, value: ScalarValue<'_>) -> Result<(), Self::Error>
         ensures serves { IsServed takes spent self.old (scalar (scalar_value_of value.entry)) result self.new };
 
-    /// Writes a value by its text in the format, as it stands.
+    /// Writes a value by its text in the format, verbatim.
     fn raw_scalar(&mut self, text: &str) -> Result<(), Self::Error>
         ensures serves { IsServed takes spent self.old (raw_scalar text.now) result self.new };
 
-    /// Writes bytes of any number, and answers `true`; or `false`, and writes nothing, where the format leaves bytes to the
+    /// Writes bytes of any number, and returns `true`; or `false`, and writes nothing, where the format leaves bytes to the
     /// caller, who writes a list.
     fn serialize_byte_sequence(&mut self, bytes: &[u8]) -> Result<bool, Self::Error>
         ensures serves { IsServedOrLeft takes spent self.old (byte_sequence bytes.now) result self.new };

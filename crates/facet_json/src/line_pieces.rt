@@ -76,7 +76,7 @@ fn read_piece<R: BufRead>(
     Ok(None)
 }
 
-/// Passes the bytes up to the line feed, and that too.
+/// Consumes the bytes up to the line feed, and that too.
 pub(crate) fn skip_text<R: BufRead>(reader: &mut R) -> io::Result<()>
     ensures done { OnOk result (LeavesNext (R.remaining reader.old) (R.remaining reader.new)) }
     ensures err { OnErr result (KeepsNext (R.remaining reader.old) (R.remaining reader.new)) }
@@ -89,7 +89,7 @@ pub(crate) fn skip_text<R: BufRead>(reader: &mut R) -> io::Result<()>
     Err(io::Error::from(ErrorKind::TimedOut))
 }
 
-/// Passes what the reader's buffer has of a line, and says whether the line ended.
+/// Consumes what the reader's buffer has of a line, and says whether the line ended.
 fn skip_piece<R: BufRead>(reader: &mut R) -> io::Result<bool>
     ensures done { result ≡ Ok true → LeavesNext (R.remaining reader.old) (R.remaining reader.new) }
     ensures inside { result ≡ Ok false → KeepsNext (R.remaining reader.old) (R.remaining reader.new) }

@@ -171,7 +171,7 @@ impl<R: BufRead> Lines<R> {
         }
     }
 
-    /// Passes lines up to the next one that is not blank, and says whether there was one.
+    /// Consumes lines up to the next one that is not blank, and says whether there was one.
     fn advance(&mut self) -> Result<bool, LineError>
         ensures line { result ≡ Ok true → GivesLine self.old self.new self.new.line }
         ensures over { result ≡ Ok false → HasNoLine self.old self.new }
@@ -190,7 +190,7 @@ impl<R: BufRead> Lines<R> {
         }
     }
 
-    /// Passes the next line, blank or not, and says whether there was one.
+    /// Consumes the next line, blank or not, and says whether there was one.
     fn pass_line(&mut self) -> Result<bool, LineError>
         ensures line { result ≡ Ok true → PassesLines self.old self.new (self.new.line ∷ []) }
         ensures one { result ≡ Ok true → All (λ x. x ≢ 10) self.new.line }

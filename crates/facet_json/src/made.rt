@@ -13,7 +13,7 @@ use facet_json_core::RawJson;
 use facet_json_tree::{OwnedDecimal, Tree};
 use std::alloc::{AllocError, Global};
 
-/// A tree as JSON is written: `null`, lists and objects as they stand, and an expression where a value may stand, whose type has
+/// A tree as JSON is written: `null`, lists and objects verbatim, and an expression where a value may stand, whose type has
 /// `IntoTree`. The allocator comes first, and the answer is a `Result<Tree, AllocError>`. A name is a `&str`: a literal, or an expression
 /// in parentheses. A name that comes twice stands twice.
 ///
@@ -330,7 +330,7 @@ impl IntoTree for &Tree {
     }
 }
 
-/// The JSON text, copied where it is borrowed, which is written as it stands, unchecked.
+/// The JSON text, copied where it is borrowed, which is written verbatim, unchecked.
 impl IntoTree for RawJson<'_> {
     ghost tree = { λ json. tree.raw (bytes_of json) };
 

@@ -42,7 +42,7 @@ impl ReadOptions {
         }
     }
 
-    /// Comments may stand wherever white space may.
+    /// Comments are allowed wherever white space is.
     pub fn jsonc(self) -> ReadOptions
         ensures { result ≡ record { language = Language.Jsonc; borrows = self.borrows; depth = self.depth } }
     {

@@ -27,7 +27,7 @@ use facet_json_parser::JsonParser;
 use facet_json_tree::pointer::{check, first_token, index_of, stands_for};
 use std::borrow::CowStr;
 
-/// Goes to the value that a JSON pointer names (RFC 6901) within the value before which the parser stands, and answers whether there is
+/// Goes to the value that a JSON pointer names (RFC 6901) within the parser's next value, and returns whether there is
 /// one. Then the parser stands right before it, and it is read or passed as any value. The empty pointer names the value that comes next;
 /// each token behind a `/` names a member of an object, or an item of a list by its index, which is `0` or digits that do not begin with
 /// `0`. In a token `~1` stands for `/` and `~0` for `~`. A parser does not go back: of several members with one key the first one counts,
@@ -125,7 +125,7 @@ fn what_begins<'t>(event: ParseEvent<'_>) -> Result<Begun, DeserializeError<'t>>
     }
 }
 
-/// Passes members of the object that is being read, up to the first key that the token stands for, which it passes too, or up to the end.
+/// Skips members of the object that is being read, up to the first key that the token stands for, which it passes too, or up to the end.
 fn find_named<'t>(parser: &mut JsonParser<'_>, token: &[u8]) -> Result<bool, DeserializeError<'t>>
     ensures finds { IfOk result (λ is. FindsKey (unescaped token.now) parser.old is parser.new) }
     ensures lacks { IfErr result (λ e. LacksMembers parser.old (refusal_of e)) }
@@ -149,7 +149,7 @@ fn is_named(key: CowStr<'_>, token: &[u8]) -> bool
     stands_for(token, key.as_str().as_bytes())
 }
 
-/// Passes items of the list that is being read, up to the one whose index the token is, or up to the end.
+/// Consumes items of the list that is being read, up to the one whose index the token is, or up to the end.
 fn find_item<'t>(parser: &mut JsonParser<'_>, token: &[u8]) -> Result<bool, DeserializeError<'t>>
     ensures finds { IfOk result (λ is. FindsItem (index token.now) parser.old is parser.new) }
     ensures lacks { IfErr result (λ e. LacksItems parser.old (refusal_of e)) }

@@ -174,7 +174,7 @@ impl<'i> Order<'i> {
         }
     }
 
-    /// Does it once, and answers what was passed, or `None` where the input is refused.
+    /// Does it once, and returns what was passed, or `None` where the input is refused.
     pub fn follow(&self, alloc: Global) -> Option<Seen> {
         let input = self.input.as_bytes();
         match self.work {

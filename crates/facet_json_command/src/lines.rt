@@ -276,7 +276,7 @@ fn write_refusal<W: Write>(
     session.told(writeln!(writer, "error {code} {offset}+{len}"))
 }
 
-/// Writes a line of a name and where it stands.
+/// Writes a line of a name and its place.
 pub fn write_place<W: Write>(
     session: &mut Session,
     writer: &mut W,
@@ -291,7 +291,7 @@ pub fn write_place<W: Write>(
     session.told(writeln!(writer, "{name} {offset}+{len}"))
 }
 
-/// Writes a line of a name, where it stands, and a value.
+/// Writes a line of a name, its place, and a value.
 pub fn write_value<W: Write, D: Display + Drop>(
     session: &mut Session,
     writer: &mut W,
@@ -308,7 +308,7 @@ pub fn write_value<W: Write, D: Display + Drop>(
     session.told(writeln!(writer, "{name} {offset}+{len} {value}"))
 }
 
-/// Writes a line of a name, where it stands, and a text between quotes.
+/// Writes a line of a name, its place, and a text between quotes.
 fn write_text<W: Write>(
     session: &mut Session,
     writer: &mut W,
@@ -326,7 +326,7 @@ fn write_text<W: Write>(
     }
 }
 
-/// Writes a line of a name, where it stands, and some bytes.
+/// Writes a line of a name, its place, and some bytes.
 fn write_pieces<W: Write>(writer: &mut W, name: &str, span: Span, bytes: &[u8]) -> io::Result<()>
     ensures { OnOk result (Appends (W.contents writer.old) (W.contents writer.new) (value_line name.now (span_of span) bytes.now)) }
 {
@@ -335,7 +335,7 @@ fn write_pieces<W: Write>(writer: &mut W, name: &str, span: Span, bytes: &[u8]) 
     writer.write_all(b"\n")
 }
 
-/// Writes the prefix of a line, a name and where it stands.
+/// Writes the prefix of a line, a name and its place.
 fn write_head<W: Write>(writer: &mut W, name: &str, span: Span) -> io::Result<()>
     ensures { OnOk result (Appends (W.contents writer.old) (W.contents writer.new) (head_text name.now (span_of span))) }
 {

@@ -1,6 +1,6 @@
 //! The parser of JSON documents by events, `JsonParser` (RFC 8259, alone or with lenient readings, and JSONC comments), and `drive`,
 //! which makes a list of its calls; the serializer, `JsonSerializer`, which writes call by call, and its options; `transcode`, which passes
-//! a value from the one to the other; `RawJson`, JSON text that is kept as it stands; and `JsonError`, the error that a person reads, with
+//! a value from the one to the other; `RawJson`, JSON text that is kept verbatim; and `JsonError`, the error that a person reads, with
 //! its `Report`. `steps` has what readers by hand are made of, and `laws` what shows the definitions of documents, parsers and serializers
 //! right.
 #![tactic(auto)]

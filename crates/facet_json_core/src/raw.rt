@@ -17,7 +17,7 @@ use std::fmt;
 use std::hash::{Hash, Hasher};
 use std::marker::Model;
 
-/// JSON text that is kept as it stands, borrowed or owned: a part of a message that is passed on, stored or read later.
+/// JSON text that is kept verbatim, borrowed or owned: a part of a message that is passed on, stored or read later.
 ///
 /// The text is not checked: whoever makes such a value says that it is JSON. Two are equal where their texts are, byte for
 /// byte, whoever holds them: `[1]` and `[ 1 ]` differ.

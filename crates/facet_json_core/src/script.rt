@@ -80,7 +80,7 @@ impl Call {
     }
 }
 
-/// Makes all calls in order, also after a refusal, and answers what each of them answers.
+/// Makes all calls in order, also after a refusal, and returns what each of them answers.
 ///
 /// ```text
 /// let mut parser = JsonParser::new(alloc, b"[1]");

@@ -82,7 +82,7 @@ pub fn transcode<'t>(
     write_value(parser, serializer)
 }
 
-/// Passes the events of one value: up to the first after which no container is open.
+/// Consumes the events of one value: up to the first after which no container is open.
 fn write_value<'t>(
     parser: &mut JsonParser<'_>,
     serializer: &mut JsonSerializer<'_>,
@@ -269,7 +269,7 @@ pub fn ended<'t>(parser: &JsonParser<'_>) -> DeserializeError<'t>
     }
 }
 
-/// Passes the end of a document, behind its root. A strict parser refuses all but white space there; a lenient one does not look.
+/// Consumes the end of a document, behind its root. A strict parser refuses all but white space there; a lenient one does not look.
 ///
 /// ```text
 /// let mut parser = JsonParser::new_strict(alloc, b"1 2");

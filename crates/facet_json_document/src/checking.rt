@@ -48,7 +48,7 @@ pub fn check<'t>(alloc: Global, input: &[u8]) -> Result<(), DeserializeError<'t>
     check_in(alloc, input, Mode::Plain)
 }
 
-/// Checks as `check`, where comments may stand wherever white space may.
+/// Checks as `check`, where comments are allowed wherever white space is.
 ///
 /// ```text
 /// check_jsonc(alloc, b"[1, /* one */]")    Ok
@@ -128,7 +128,7 @@ fn last_token<'t>(alloc: Global, text: &[u8], mode: Mode) -> Result<Span, Deseri
     pass_up(&mut parser_of(alloc, text, mode))
 }
 
-/// Passes all events, and answers the last token.
+/// Consumes all events, and returns the last token.
 fn pass_up<'t>(parser: &mut JsonParser<'_>) -> Result<Span, DeserializeError<'t>>
     requires unpeeked { parser.old.cursor.spot.peeked ≡ false }
     ensures up { IfOk result (λ last. PassesUp parser.old (span_of last)) }
@@ -141,7 +141,7 @@ fn pass_up<'t>(parser: &mut JsonParser<'_>) -> Result<Span, DeserializeError<'t>
     Ok(last_span(parser))
 }
 
-/// Passes the next event, and says whether there was one.
+/// Consumes the next event, and says whether there was one.
 fn passes_event<'t>(parser: &mut JsonParser<'_>) -> Result<bool, DeserializeError<'t>>
     ensures passed { IfOk result (λ some. Told some parser.old parser.new) }
     ensures refused { IfErr result (λ e. Moves parser.old next (event (Err (refusal_of e))) parser.new) }
@@ -153,7 +153,7 @@ fn passes_event<'t>(parser: &mut JsonParser<'_>) -> Result<bool, DeserializeErro
     Ok(event.is_some())
 }
 
-/// Passes what stands behind a document whose last token takes these bytes: a gap alone.
+/// Skips what stands behind a document whose last token takes these bytes: a gap alone.
 fn pass_behind<'t>(
     alloc: Global,
     text: &[u8],

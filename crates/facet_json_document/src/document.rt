@@ -82,7 +82,7 @@ impl<'i> Document<'i> {
         Document::parse_in(alloc, input, Mode::Plain)
     }
 
-    /// Reads as `parse`, where comments may stand wherever white space may.
+    /// Reads as `parse`, where comments are allowed wherever white space is.
     ///
     /// ```text
     /// Document::parse_jsonc(alloc, b"[1, /* one */]")    Ok: its root is a list of 1

@@ -149,7 +149,7 @@ fn push_content_bytewise(out: &mut Sink, bytes: &[u8]) -> Result<(), AllocError>
     push_run(out, &bytes[start..])
 }
 
-/// Appends bytes as they stand. Where escapes follow one another there are none between them, and no call is spent on that.
+/// Appends bytes verbatim. Where escapes follow one another there are none between them, and no call is spent on that.
 #[inline(always)]
 fn push_run(out: &mut Sink, run: &[u8]) -> Result<(), AllocError>
     ensures { OnOk result (out.new ≡ out.old ++ run.now) }
@@ -160,7 +160,7 @@ fn push_run(out: &mut Sink, run: &[u8]) -> Result<(), AllocError>
     out.extend_from_slice(run)
 }
 
-/// Appends bytes as they stand, and what stands for the byte behind them.
+/// Appends bytes verbatim, and what stands for the byte behind them.
 #[inline(always)]
 fn push_run_and_escaped(out: &mut Sink, run: &[u8], byte: u8) -> Result<(), AllocError>
     ensures { OnOk result (out.new ≡ (out.old ++ run.now) ++ escaped byte) }
@@ -234,7 +234,7 @@ fn escapes(bytes: u8x16) -> u64
         | bytes.simd_eq(u8x16::splat(0x7f))).to_bitmask()
 }
 
-/// How many of sixteen bytes may be copied as they stand, up to the first that needs an escape: sixteen where all may.
+/// How many of sixteen bytes may be copied verbatim, up to the first that needs an escape: sixteen where all may.
 #[inline(always)]
 fn plain_lanes(bytes: u8x16) -> usize
     ensures value { result ≡ prefix_len window.needs_no_escape bytes }

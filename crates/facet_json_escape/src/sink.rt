@@ -114,7 +114,7 @@ impl Sink {
         Ok(())
     }
 
-    /// Appends a text of up to 32 bytes as it stands, between quotes, after a comma and before a colon where these are wanted.
+    /// Appends a text of up to 32 bytes verbatim, between quotes, after a comma and before a colon where these are wanted.
     #[inline(always)]
     pub(crate) fn push_short(
         &mut self,
@@ -268,7 +268,7 @@ fn place_run(buffer: &mut [u8], at: usize, run: &[u8]) -> usize
     end
 }
 
-/// Writes a text of up to 32 bytes as it stands, between quotes, at a place of a buffer.
+/// Writes a text of up to 32 bytes verbatim, between quotes, at a place of a buffer.
 #[inline(always)]
 fn place_framed(
     buffer: &mut [u8],

@@ -26,7 +26,7 @@ pub fn member_text<'i, 't>(
     }
 }
 
-/// The payload of `{"payload":..}`, as it stands in the input.
+/// The payload of `{"payload":..}`, as it is in the input.
 fn payload<'i>(document: &Document<'i>) -> Option<&'i [u8]> {
     Some(document.root().get("payload")?.raw())
 }

@@ -6,7 +6,7 @@ use std::alloc::Global;
 use std::io::BufRead;
 
 /// Whether a record is one of an error, as `{"time":1764,"level":"error","details":{"code":7}}`. What stands before the
-/// level is passed undecoded, and what stands behind it is not read.
+/// level is skipped undecoded, and what stands behind it is not read.
 pub fn is_error<'t>(alloc: Global, record: &[u8]) -> Result<bool, DeserializeError<'t>> {
     let mut parser = JsonParser::new(alloc, record);
     begin_object(&mut parser)?;

@@ -16,7 +16,7 @@ pub struct Message<'de> {
     pub id: Option<u64>,
     /// What is asked for.
     pub method: Option<CowStr<'de>>,
-    /// The parameters, as they stand in the input.
+    /// The parameters, as they are in the input.
     pub params: Option<&'de str>,
 }
 

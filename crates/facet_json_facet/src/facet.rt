@@ -46,7 +46,7 @@ pub trait Facet<'de>: Sized + Drop {
     /// only where the input is a strict document. A type that keeps the default says nothing of it.
     ghost whole: { Bool } = { false };
 
-    /// Reads the value before which the parser stands, and borrows nothing of the input.
+    /// Reads the parser's next value, and borrows nothing of the input.
     ///
     /// # Errors
     ///
@@ -68,7 +68,7 @@ pub trait Facet<'de>: Sized + Drop {
         ensures free { OnOk result (parser.new.cursor.refusal ≡ None) }
         ensures tells { IfErr result (λ e. TellsRefusal parser.old parser.new (refusal_of e)) };
 
-    /// Reads the value before which the parser stands, and may borrow of the input.
+    /// Reads the parser's next value, and may borrow of the input.
     ///
     /// # Errors
     ///

@@ -63,7 +63,7 @@ impl<'de, T: Facet<'de>> Facet<'de> for Vec<T> {
     ghost laws = { list-laws T.laws };
 }
 
-/// Reads the list before which the parser stands. Its elements may borrow of the input where `borrows` says so.
+/// Reads the parser's next list. Its elements may borrow of the input where `borrows` says so.
 ///
 /// # Errors
 ///

@@ -56,7 +56,7 @@ impl<'de, T: Facet<'de>> Facet<'de> for BTreeMap<String, T> {
     ghost laws = { entries-laws T.laws };
 }
 
-/// Reads the map before which the parser stands. Its values may borrow of the input where `borrows` says so.
+/// Reads the parser's next map. Its values may borrow of the input where `borrows` says so.
 ///
 /// # Errors
 ///

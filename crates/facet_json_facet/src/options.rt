@@ -56,7 +56,7 @@ impl<'de, T: Facet<'de>> Facet<'de> for Option<T> {
     ghost laws = { nullable-laws T.laws };
 }
 
-/// Reads the value before which the parser stands, or null. It may borrow of the input where `borrows` says so.
+/// Reads the parser's next value, or null. It may borrow of the input where `borrows` says so.
 ///
 /// # Errors
 ///

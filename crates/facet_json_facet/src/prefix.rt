@@ -11,7 +11,7 @@ use facet_json_core::last_span;
 use facet_json_parser::JsonParser;
 use std::alloc::Global;
 
-/// Reads a value as `from_slice`, and answers the offset in bytes at which its document ends: that of the byte after its last token.
+/// Reads a value as `from_slice`, and returns the offset in bytes at which its document ends: that of the byte after its last token.
 ///
 /// ```text
 /// from_slice_prefix::<u8>(alloc, b" 7 8")        Ok: (7, 2)
@@ -55,7 +55,7 @@ pub fn from_str_prefix<'t, 'de, T: Facet<'de>>(
     value_and_end(alloc, &mut JsonParser::new_trusted(alloc, bytes))
 }
 
-/// Reads the value before which a new parser stands, and answers the end of its last token.
+/// Reads the first value of a new parser, and returns the end of its last token.
 fn value_and_end<'t, 'de, T: Facet<'de>>(
     alloc: Global,
     parser: &mut JsonParser<'de>,

@@ -61,7 +61,7 @@ impl<'de> Facet<'de> for RawJson<'de> {
     ghost laws = { raw-laws };
 }
 
-/// The text of the value before which the parser stands, as it stands in the input.
+/// The text of the parser's next value, as it is in the input.
 ///
 /// # Errors
 ///

@@ -52,7 +52,7 @@ pub fn from_slice_borrowed<'t, 'de, T: Facet<'de>>(
     first_value(alloc, &mut JsonParser::new(alloc, input), true)
 }
 
-/// Reads a value as `from_slice`, where comments may stand wherever white space may: `//` up to the line's end, and `/*` up to `*/`.
+/// Reads a value as `from_slice`, where comments are allowed wherever white space is: `//` up to the line's end, and `/*` up to `*/`.
 ///
 /// ```text
 /// from_slice_jsonc::<bool>(alloc, b"/* yes */ true")        Ok: true
@@ -71,7 +71,7 @@ pub fn from_slice_jsonc<'t, 'de, T: Facet<'de>>(
     first_value(alloc, &mut JsonParser::new_jsonc(alloc, input), false)
 }
 
-/// Reads a value as `from_slice_borrowed`, where comments may stand as in `from_slice_jsonc`.
+/// Reads a value as `from_slice_borrowed`, where comments are allowed as in `from_slice_jsonc`.
 ///
 /// ```text
 /// from_slice_borrowed_jsonc::<String>(alloc, b"\"ab\" // two letters")        Ok: ab
@@ -177,7 +177,7 @@ pub fn from_str_borrowed_jsonc<'t, 'de, T: Facet<'de>>(
     first_value(alloc, &mut JsonParser::new_jsonc_trusted(alloc, text), true)
 }
 
-/// Reads the value before which a new parser stands, and may borrow of the input where `borrows` says so: for a parser that was made in another
+/// Reads the first value of a new parser, and may borrow of the input where `borrows` says so: for a parser that was made in another
 /// way than by the functions above.
 ///
 /// ```text

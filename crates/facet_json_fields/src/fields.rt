@@ -62,7 +62,7 @@ pub trait Fields<'de>: Sized + Drop {
         ensures none { seen result ≡ start }
         ensures owned { owned_slots result };
 
-    /// Reads the value of a member before which the parser stands, as the field of the member's key, or passes it.
+    /// Reads the parser's next value, that of a member, as the field of the member's key, or passes it.
     ///
     /// # Errors
     ///
@@ -266,7 +266,7 @@ impl<'de, T: Facet<'de>, R: Fields<'de>> Fields<'de> for Maybe<T, R> {
     }
 }
 
-/// Reads the value of a member before which the parser stands, as the first field where the member's key is that field's name, and else as
+/// Reads the parser's next value, that of a member, as the first field where the member's key is that field's name, and else as
 /// one of those after it.
 #[inline(always)]
 fn put_first<'t, 'de, T: Facet<'de>, R: Fields<'de>>(
@@ -307,7 +307,7 @@ fn put_first<'t, 'de, T: Facet<'de>, R: Fields<'de>>(
 }
 
 /// Reads an object as fields of these names (RFC 8259, section 4). The last member of a repeated key counts, and a member that no
-/// name fits is passed undecoded. What is read may borrow of the input where `borrows` says so.
+/// name fits is skipped undecoded. What is read may borrow of the input where `borrows` says so.
 ///
 /// ```text
 /// struct Person { name: String, age: u8 }

@@ -122,7 +122,7 @@ fn opened(alloc: Global, language: Language, source: &[u8]) -> Option<Span> {
     }
 }
 
-/// Passes all events, and keeps which brackets are open.
+/// Consumes all events, and keeps which brackets are open.
 fn pass_events(parser: &mut JsonParser<'_>, open: &mut Vec<Span>) -> Result<(), AllocError> {
     while let Ok(Some(event)) = parser.next_event() {
         follow(open, &event)?;

@@ -47,7 +47,7 @@ pub fn replace(rt: &HostRuntime, name: &str, text: &[u8]) -> io::Result<()> {
     moved
 }
 
-/// Creates a file beside the one of this path, which only its owner may read, and answers it with its path.
+/// Creates a file beside the one of this path, which only its owner may read, and returns it with its path.
 fn create_beside(rt: &HostRuntime, path: &str) -> io::Result<(File, String)> {
     for number in 0..MOST_NAMES {
         let name = format!(in rt.alloc(); "{path}.{number}.new")?;

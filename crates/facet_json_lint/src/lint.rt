@@ -39,7 +39,7 @@ struct Source<'a> {
 }
 
 impl Lint<'_> {
-    /// Checks the files of these names, or the standard input where there are none, and answers the status.
+    /// Checks the files of these names, or the standard input where there are none, and returns the status.
     pub fn all<W: Write>(self, names: &[&str], output: &mut W) -> io::Result<u8> {
         let mut tally = Tally::new();
         if names.is_empty() {

@@ -1,4 +1,4 @@
-//! Checks JSON files for a person, reports what is wrong with each where it stands, and lays files out.
+//! Checks JSON files for a person, reports what is wrong with each in its place, and lays files out.
 //!
 //! Reports go to the standard output; with `--format`, which may write a text there, to the standard error. The status is 0 where all is
 //! fine, 1 where something is reported, and 2 where the arguments are wrong, or a file can't be read or written.
@@ -53,7 +53,7 @@ fn allows_colour(rt: &HostRuntime) -> bool {
     }
 }
 
-/// Checks the files, and answers the status.
+/// Checks the files, and returns the status.
 fn check_all(rt: &HostRuntime, options: Options, names: &[&str]) -> io::Result<u8> {
     let is_text_written = matches!(options.layout, Layout::Made);
     let is_terminal = if is_text_written {
@@ -79,7 +79,7 @@ fn refuse(rt: &HostRuntime, misuse: Misuse<'_>) -> io::Result<u8> {
     Ok(2)
 }
 
-/// Does what the program was called for, and answers the status.
+/// Does what the program was called for, and returns the status.
 fn run(rt: &HostRuntime) -> io::Result<u8> {
     let args: Vec<String> = match env::args(rt) {
         Ok(args) => args.skip(1).collect(rt.alloc())?,
@@ -89,7 +89,7 @@ fn run(rt: &HostRuntime) -> io::Result<u8> {
     answer(rt, args.as_slice())
 }
 
-/// Does what the arguments ask for, and answers the status.
+/// Does what the arguments ask for, and returns the status.
 fn answer(rt: &HostRuntime, args: &[String]) -> io::Result<u8> {
     match request_of(rt.alloc(), args) {
         Ok(Request::Lint(options, names)) => check_all(rt, options, names.as_slice()),

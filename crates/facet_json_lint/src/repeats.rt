@@ -69,7 +69,7 @@ fn find(keys: &[Key<'_>], repeats: &mut Vec<Repeat>) -> Result<(), AllocError> {
     Ok(())
 }
 
-/// The repeated keys of the document before which the parser stands, in the order in which they come.
+/// The repeated keys of the parser's document, in the order in which they come.
 ///
 /// # Errors
 ///

@@ -74,7 +74,7 @@ impl<'de> Lookahead<'de> {
         }
     }
 
-    /// Passes the next event and answers it, or `None` after the document's last one.
+    /// Consumes the next event and returns it, or `None` after the document's last one.
     pub fn next(
         &mut self,
         alloc: Global,
@@ -100,7 +100,7 @@ impl<'de> Lookahead<'de> {
         Ok(Some(held.into_event()))
     }
 
-    /// Passes what is wanted and answers it with its span, where no event is held and a few bytes decide that it comes. Else nothing
+    /// Consumes what is wanted and returns it with its span, where no event is held and a few bytes decide that it comes. Else nothing
     /// changes.
     #[inline(always)]
     pub fn step<W: Wanted<'de>>(
@@ -132,7 +132,7 @@ impl<'de> Lookahead<'de> {
         self.reader.comes_other(input, language, sought)
     }
 
-    /// Answers a copy of the next event, which stays the next one, or `None` after the document's last one.
+    /// Returns a copy of the next event, which stays the next one, or `None` after the document's last one.
     pub fn peek(
         &mut self,
         alloc: Global,
@@ -154,7 +154,7 @@ impl<'de> Lookahead<'de> {
         }
     }
 
-    /// Passes the next event and answers it, once the queue has room for it.
+    /// Consumes the next event and returns it, once the queue has room for it.
     pub fn next_with_room(
         &mut self,
         alloc: Global,
@@ -182,7 +182,7 @@ impl<'de> Lookahead<'de> {
         }
     }
 
-    /// Passes what stands next, its text unread: a value with all that it holds, a key with its colon, or a closing bracket.
+    /// Skips what stands next, its text unread: a value with all that it holds, a key with its colon, or a closing bracket.
     /// Where it is refused, nothing changes.
     pub fn skip(
         &mut self,
@@ -205,7 +205,7 @@ impl<'de> Lookahead<'de> {
         Ok(())
     }
 
-    /// Passes the value that stands next, and answers its bytes as they stand in the input. Where it is refused, nothing changes.
+    /// Skips the value that stands next, and returns its bytes as they are in the input. Where it is refused, nothing changes.
     pub fn capture(
         &mut self,
         alloc: Global,
@@ -277,7 +277,7 @@ impl<'de> Lookahead<'de> {
         }
     }
 
-    /// Passes the event that is held.
+    /// Consumes the event that is held.
     fn take(&mut self) -> Option<ParseEvent<'de>>
         ensures { MatchOption result
             ((lookahead_of self.new ≡ lookahead_of self.old) × ((lookahead_of self.old).held ≡ None))

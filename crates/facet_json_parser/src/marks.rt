@@ -1,4 +1,4 @@
-//! Passes a container 64 bytes at a time: of each block only the marked bytes are looked at.
+//! Consumes a container 64 bytes at a time: of each block only the marked bytes are looked at.
 
 ghost use Rattle.std.specs.Prelude.{◌≡◌, ◌≤◌, ◌<◌, ◌+◌, ◌-◌, ◌^◌, ◌==◌, ◌||◌, ℕ, true, false, Bool, suc, length, get_or, slice_get, Some};
 ghost use Rattle.std.specs.Prelude.{IfOk};
@@ -33,7 +33,7 @@ pub(crate) struct Passage {
     pub(crate) goes_on: bool,
 }
 
-/// Passes blocks while that pays, and the bracket is open that opened all.
+/// Consumes blocks while that pays, and the bracket is open that opened all.
 #[inline(never)]
 pub(crate) fn pass_blocks(
     contexts: &mut Contexts,
@@ -56,7 +56,7 @@ pub(crate) fn pass_blocks(
     Ok(passage)
 }
 
-/// Passes a block, or goes on elsewhere.
+/// Consumes a block, or goes on elsewhere.
 #[inline(always)]
 fn pass_block(
     contexts: &mut Contexts,
@@ -92,7 +92,7 @@ fn is_dense(marks: u64) -> bool {
     (marks & !(marks << 1)).count_ones() > 9 || marks.count_ones() > 40
 }
 
-/// Passes a block by its marks.
+/// Consumes a block by its marks.
 #[inline(always)]
 fn pass_marks(
     input: &[u8],

@@ -118,7 +118,7 @@ impl<'de> JsonParser<'de> {
         JsonParser::in_language(alloc, input, Language::Plain, Trust::Nothing)
     }
 
-    /// A parser of a document in which comments may stand wherever white space may: `//` to the line's end, and `/*` to
+    /// A parser of a document in which comments are allowed wherever white space is: `//` to the line's end, and `/*` to
     /// `*/`. It does not allocate.
     pub fn new_jsonc(alloc: Global, input: &'de [u8]) -> JsonParser<'de>
         ensures { result ≡ fresh input.now jsonc }
@@ -188,7 +188,7 @@ impl<'de> JsonParser<'de> {
         }
     }
 
-    /// Drops a point that is kept, as `restore` does, and stays where it stands, refused or not. A point that is not kept changes nothing.
+    /// Drops a point that is kept, as `restore` does, and stays where it is, refused or not. A point that is not kept changes nothing.
     /// It does not allocate.
     pub fn forget(&mut self, point: SavePoint)
         ensures { self.new ≡ without_point point.0 self.old }
@@ -221,7 +221,7 @@ impl<'de> JsonParser<'de> {
         ParseError::from(refused)
     }
 
-    /// Passes what is wanted, where a few bytes decide that it comes. Else nothing changes.
+    /// Consumes what is wanted, where a few bytes decide that it comes. Else nothing changes.
     #[inline(always)]
     fn step<W: Wanted<'de>>(&mut self) -> Option<(W, Span)>
         ensures passed { MatchOption result (self.new ≡ self.old)
@@ -288,7 +288,7 @@ impl<'de> JsonParser<'de> {
     }
 }
 
-/// Passes what is wanted and answers it with its event's span, where a few bytes decide that it comes. Else nothing changes. It does not
+/// Consumes what is wanted and returns it with its event's span, where a few bytes decide that it comes. Else nothing changes. It does not
 /// allocate, but for an open container.
 #[inline(always)]
 pub fn next_wanted<'de, W: Wanted<'de>>(parser: &mut JsonParser<'de>) -> Option<(W, Span)>
@@ -311,7 +311,7 @@ impl<'de> FormatParser<'de> for JsonParser<'de> {
 
     ghost ahead = { ahead };
 
-    /// Passes the next event and answers it, or `None` after the document's last one, again and again.
+    /// Consumes the next event and returns it, or `None` after the document's last one, again and again.
     ///
     /// # Errors
     ///
@@ -343,7 +343,7 @@ impl<'de> FormatParser<'de> for JsonParser<'de> {
         Ok(Some(ParseEvent::new(kind, span)))
     }
 
-    /// Answers the next event and lets it stay the next one, or `None` after the document's last one.
+    /// Returns the next event and lets it stay the next one, or `None` after the document's last one.
     ///
     /// # Errors
     ///
@@ -365,7 +365,7 @@ impl<'de> FormatParser<'de> for JsonParser<'de> {
         }
     }
 
-    /// Passes the next events, up to so many, appends them to the queue and answers how many they are. They are fewer
+    /// Consumes the next events, up to so many, appends them to the queue and returns how many they are. They are fewer
     /// only where the document ends.
     ///
     /// # Errors
@@ -399,7 +399,7 @@ impl<'de> FormatParser<'de> for JsonParser<'de> {
         Ok(limit)
     }
 
-    /// Passes the next value with all that it holds, or a key with its colon, or the end of a container, and decodes nothing:
+    /// Skips the next value with all that it holds, or a key with its colon, or the end of a container, and decodes nothing:
     /// tokens are cut and brackets matched, and no more. An event that was peeked at is passed with its value.
     ///
     /// # Errors
@@ -428,7 +428,7 @@ impl<'de> FormatParser<'de> for JsonParser<'de> {
         }
     }
 
-    /// Passes the next value with all that it holds, as a skip does, and answers its bytes as they stand in the input, from its
+    /// Consumes the next value with all that it holds, as a skip does, and returns its bytes as they are in the input, from its
     /// first token to its last one. They are always there.
     ///
     /// # Errors
@@ -459,7 +459,7 @@ impl<'de> FormatParser<'de> for JsonParser<'de> {
         }
     }
 
-    /// Keeps where it stands, an event that was peeked at included, under the next number: the first point has 1. Numbers
+    /// Saves its position, an event that was peeked at included, under the next number: the first point has 1. Numbers
     /// are not used again.
     ///
     /// # Errors

@@ -1,4 +1,4 @@
-//! Passes what stands first where a reader goes on, its text unread.
+//! Skips what stands first where a reader goes on, its text unread.
 
 ghost use Rattle.std.specs.Prelude.{◌≡◌, ◌≤◌, ◌-◌, true, false, List, Ok, Err, length, slice_range, codes, IfOk, MatchResult};
 ghost use Rattle.std.specs.Str.{is_utf8};
@@ -22,7 +22,7 @@ use facet_json_reader::{Expected, Name, NoRaw, Place, Reader, Refused, Stage, Wh
 use facet_json_token::{Mode, SpannedToken, Token, cut};
 use std::alloc::Global;
 
-/// Passes the part that stands first, and returns its last token: that of a value's run, of a key its colon, or the closing
+/// Consumes the part that stands first, and returns its last token: that of a value's run, of a key its colon, or the closing
 /// bracket. Memory is taken for the kinds of open brackets alone: where it runs out, the refusal names `last`.
 pub fn pass(
     alloc: Global,
@@ -45,7 +45,7 @@ pub fn pass(
     }
 }
 
-/// Passes the value that stands first, and returns its bytes, as they stand in the input, and its last token. A key and a
+/// Skips the value that stands first, and returns its bytes, as they are in the input, and its last token. A key and a
 /// closing bracket are refused, and a value whose bytes are not UTF-8.
 pub fn capture<'de>(
     alloc: Global,

@@ -1,4 +1,4 @@
-//! Passes a value's tokens up to its last one, whatever stands between its brackets.
+//! Skips a value's tokens up to its last one, whatever stands between its brackets.
 
 ghost use Rattle.std.specs.Prelude.{◌≡◌, ◌≤◌, ◌<◌, ◌⊎◌, true, List, [], ◌∷◌, Some, length, IfOk, IfErr, MatchResult};
 ghost use Rattle.facet_format.specs.Cursor.{no_memory_at};
@@ -25,7 +25,7 @@ use facet_json_token::{CutResult, Mode, SpannedToken, Token, cut};
 use std::alloc::Global;
 use std::mem;
 
-/// Passes the run of the value that begins with this token, which was cut off the input, and returns the run's last token. A
+/// Consumes the run of the value that begins with this token, which was cut off the input, and returns the run's last token. A
 /// scalar is its own run. From an opening bracket on memory is taken for the kinds of open brackets alone: where it runs
 /// out, the refusal names `last`.
 pub fn pass_run(
@@ -63,7 +63,7 @@ pub fn pass_run(
     }
 }
 
-/// Passes the run that begins with the bracket that opens a container of this kind, `first`, and returns its last token.
+/// Consumes the run that begins with the bracket that opens a container of this kind, `first`, and returns its last token.
 pub fn pass_container(
     alloc: Global,
     input: &[u8],
@@ -84,7 +84,7 @@ pub fn pass_container(
     pass_open(alloc, &mut contexts, input, mode, first, last)
 }
 
-/// Passes all up to the bracket that closes the last one of these: first by tokens, then by blocks, and by tokens again where that is
+/// Consumes all up to the bracket that closes the last one of these: first by tokens, then by blocks, and by tokens again where that is
 /// faster.
 fn pass_open(
     alloc: Global,
@@ -119,7 +119,7 @@ fn next_stretch(stretch: usize, stays: bool) -> usize {
     }
 }
 
-/// Passes tokens up to the end, or to one that ends beyond the offset. The kinds of brackets stand apart meanwhile, so that they need not
+/// Consumes tokens up to the end, or to one that ends beyond the offset. The kinds of brackets stand apart meanwhile, so that they need not
 /// lie in memory.
 #[inline(never)]
 fn pass_tokens(
@@ -170,7 +170,7 @@ fn token_beyond(input: &[u8], position: usize, mode: Mode) -> (usize, CutResult)
     }
 }
 
-/// Passes the token that begins at this offset, up to which quiet tokens stand.
+/// Consumes the token that begins at this offset, up to which quiet tokens stand.
 #[inline(always)]
 pub(crate) fn pass_mark(
     contexts: &mut Contexts,
@@ -209,7 +209,7 @@ fn next_token(input: &[u8], position: usize, mode: Mode) -> CutResult
     }
 }
 
-/// Passes a token within these brackets, of which this is the innermost.
+/// Consumes a token within these brackets, of which this is the innermost.
 #[inline(always)]
 fn pass_token(
     contexts: &mut Contexts,

@@ -34,7 +34,7 @@ fn answer(rt: &HostRuntime, name: &str, text: &str) -> io::Result<u8> {
     }
 }
 
-/// Reads the file, and prints its settings or what is wrong with it. What is answered is the status: 0 where the settings are printed, 1
+/// Reads the file, and prints its settings or what is wrong with it. It returns the status: 0 where the settings are printed, 1
 /// where something is wrong with them, and 2 where the file can't be read.
 pub fn run(rt: &HostRuntime, file: Option<&str>) -> io::Result<u8> {
     match text_of(rt, file)? {

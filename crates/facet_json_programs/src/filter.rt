@@ -26,7 +26,7 @@ fn is_value<'t>(alloc: Global, json: &str, value: &str) -> Result<bool, Deserial
     }
 }
 
-/// Whether a record is wanted. What stands before the member is passed undecoded, and what stands behind it is not read.
+/// Whether a record is wanted. What stands before the member is skipped undecoded, and what stands behind it is not read.
 pub fn is_wanted<'t>(
     alloc: Global,
     record: &[u8],
@@ -59,7 +59,7 @@ fn tell_long<E: Write>(name: &str, number: usize, errors: &mut E) -> io::Result<
     writeln!(errors, "{name}: {}", LineError::TooLong { number })
 }
 
-/// Copies a line that is wanted, and tells why one is no record. What is answered is whether it is one.
+/// Copies a line that is wanted, and tells why one is no record. It returns whether it is one.
 fn pass<W: Write, E: Write>(
     alloc: Global,
     name: &str,
@@ -79,7 +79,7 @@ fn pass<W: Write, E: Write>(
     Ok(true)
 }
 
-/// Copies the lines of a log that are wanted, and tells what is wrong with others. What is answered is whether nothing was.
+/// Copies the lines of a log that are wanted, and tells what is wrong with others. It returns whether nothing was.
 pub fn filter<R: BufRead + Drop, W: Write, E: Write>(
     alloc: Global,
     name: &str,

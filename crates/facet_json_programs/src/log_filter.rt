@@ -5,7 +5,7 @@ use crate::filter::{Wanted, filter};
 use std::io::{BufReader, BufWriter, Write};
 use std::{fs, io};
 
-/// Filters the standard input. What is answered is whether each line is a record as far as it was read.
+/// Filters the standard input. It returns whether each line is a record as far as it was read.
 fn filter_input<W: Write>(
     rt: &HostRuntime,
     wanted: Wanted<'_>,
@@ -22,7 +22,7 @@ fn filter_input<W: Write>(
     )
 }
 
-/// Filters the file of this name. What is answered is whether each line is a record, or `None` where the file can't be opened, which is
+/// Filters the file of this name. It returns whether each line is a record, or `None` where the file can't be opened, which is
 /// told.
 fn filter_file<W: Write>(
     rt: &HostRuntime,
@@ -42,7 +42,7 @@ fn filter_file<W: Write>(
     Ok(Some(filter(rt.alloc(), file, input, wanted, output, &mut rt.stderr())?))
 }
 
-/// Filters the files of these names, up to one that can't be opened. What is answered is as of one of them.
+/// Filters the files of these names, up to one that can't be opened. It returns the same as for one of them.
 fn filter_files<W: Write>(
     rt: &HostRuntime,
     files: &[String],
@@ -59,7 +59,7 @@ fn filter_files<W: Write>(
     Ok(Some(is_fine))
 }
 
-/// Filters the standard input, or the files of these names. What is answered is the status: 0 where each line is a record as far as it was
+/// Filters the standard input, or the files of these names. It returns the status: 0 where each line is a record as far as it was
 /// read, 1 where one isn't, which is told, and 2 where a file can't be opened.
 pub fn run(rt: &HostRuntime, wanted: Wanted<'_>, files: &[String]) -> io::Result<u8> {
     let mut output = BufWriter::new(rt.alloc(), rt.stdout())?;

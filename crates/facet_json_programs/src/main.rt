@@ -2,7 +2,7 @@
 //!
 //! - `config [FILE]` reads a configuration file, JSON with comments, and prints its settings, or what is wrong with a line and a caret.
 //! - `log_filter --where NAME=VALUE [FILE..]` copies the records of logs whose member of that name has that value.
-//! - `message_core` answers requests of JSON-RPC 2.0, a request a line: `sum` and `length`, and `echo` with its parameters as they stand.
+//! - `message_core` answers requests of JSON-RPC 2.0, a request a line: `sum` and `length`, and `echo` with its parameters verbatim.
 //! - `validate [OPTION VALUE].. [FILE]` checks a document by its events. `--depth`, `--items` and `--length` set limits of how deep its
 //!   containers nest, how many values one of them has, and how many bytes a key or a scalar. `--require POINTER=KIND` says what has to be
 //!   there, as `/listen/port=number`; kinds are `null`, `bool`, `number`, `string`, `array`, `object`.
@@ -66,7 +66,7 @@ fn run_message_core(rt: &HostRuntime, args: &[String]) -> io::Result<Option<u8>>
     }
 }
 
-/// Runs the program that the arguments name. What is answered is its status, or `None` where they name none.
+/// Runs the program that the arguments name. It returns its status, or `None` where they name none.
 fn run(rt: &HostRuntime, args: &[String]) -> io::Result<Option<u8>> {
     match args {
         [name, args @ ..] if name.as_str() == "config" => run_config(rt, args),
@@ -77,7 +77,7 @@ fn run(rt: &HostRuntime, args: &[String]) -> io::Result<Option<u8>> {
     }
 }
 
-/// Does what the program was called for. What is answered is the status.
+/// Does what the program was called for. It returns the status.
 fn called(rt: &HostRuntime) -> io::Result<u8> {
     let args: Vec<String> = env::args(rt)?.skip(1).collect(rt.alloc())?;
     match run(rt, args.as_slice())? {

@@ -1,4 +1,4 @@
-//! Members of an object, of which the others are passed undecoded.
+//! Members of an object, of which the others are skipped undecoded.
 
 use facet_json::steps::{begin_object, find_key};
 use facet_json::{DeserializeError, FormatParser, JsonParser};

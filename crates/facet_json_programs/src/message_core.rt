@@ -101,7 +101,7 @@ fn serve<R: BufRead + Drop, W: Write>(alloc: Global, input: R, output: &mut W) -
     }
 }
 
-/// Serves the standard input. What is answered is the status: 0 where the input has ended.
+/// Serves the standard input. It returns the status: 0 where the input has ended.
 pub fn run(rt: &HostRuntime) -> io::Result<u8> {
     let input = BufReader::new(rt.alloc(), rt.stdin())?;
     serve(rt.alloc(), input, &mut rt.stdout())?;

@@ -63,7 +63,7 @@ fn length(alloc: Global, params: &str) -> Result<String, Fault>
     json_of(alloc, &length_of(texts.as_slice())?)
 }
 
-/// The result of the method of this name, as JSON text: `sum`, `length`, and `echo`, whose result is the parameters as they stand.
+/// The result of the method of this name, as JSON text: `sum`, `length`, and `echo`, whose result is the parameters verbatim.
 pub fn call<'de>(alloc: Global, method: &str, params: &'de str) -> Result<RawJson<'de>, Fault>
     ensures unknown { IsUnknown method.now → result ≡ Err Method }
     ensures known { result ≡ Err Method → IsUnknown method.now }

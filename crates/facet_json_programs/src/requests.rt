@@ -12,11 +12,11 @@ use std::alloc::Global;
 /// A request (JSON-RPC 2.0, section 4), which borrows of its line.
 #[derive(Drop)]
 pub struct Request<'de> {
-    /// What its answer has in the same place, as it stands in the line. A request without is a notification, and has no answer.
+    /// What its answer has in the same place, as it is in the line. A request without is a notification, and has no answer.
     pub id: Option<&'de str>,
     /// What is asked for.
     pub method: String,
-    /// An array or an object, as it stands in the line.
+    /// An array or an object, as it is in the line.
     pub params: &'de str,
 }
 

@@ -16,7 +16,7 @@ pub struct Limits {
     pub depth: usize,
     /// How many items or members one of them has.
     pub items: usize,
-    /// How many bytes a key or a scalar has, as it stands in the document, quotes included.
+    /// How many bytes a key or a scalar has, as it is in the document, quotes included.
     pub length: usize,
 }
 

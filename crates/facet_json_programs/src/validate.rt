@@ -55,7 +55,7 @@ fn limits_of(args: &[String]) -> Option<(Limits, Option<&str>)> {
     }
 }
 
-/// Prints what is wrong with a text, and where. What is answered is whether nothing is.
+/// Prints what is wrong with a text, and where. It returns whether nothing is.
 fn tell(rt: &HostRuntime, name: &str, text: &str, checked: Checked) -> io::Result<bool> {
     let Err(refused) = checked else {
         return Ok(true);
@@ -100,7 +100,7 @@ fn check(
     Ok(if is_fine { 0 } else { 1 })
 }
 
-/// Checks the file that is named, or the standard input. What is answered is the status: 0 where all is as it should be, 1 where something
+/// Checks the file that is named, or the standard input. It returns the status: 0 where all is as it should be, 1 where something
 /// isn't, 2 where the file can't be read; or `None` where the arguments are none of this program.
 pub fn run(rt: &HostRuntime, args: &[String]) -> io::Result<Option<u8>> {
     let Some((limits, file)) = limits_of(args) else {

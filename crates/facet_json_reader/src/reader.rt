@@ -294,7 +294,7 @@ impl Reader {
         }
     }
 
-    /// Passes an event whose container, if it opens one, is open already.
+    /// Consumes an event whose container, if it opens one, is open already.
     pub fn pass(&mut self, held: &Held<'_>)
         ensures { (stack : List SpecContainer) → self.old.contexts ≡ with_opened (event_kind_of held.now.event.kind) stack
             → reader_of self.new ≡ past (passed_of held.now) (record (reader_of self.old) { stack = stack }) }

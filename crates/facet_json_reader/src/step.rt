@@ -127,7 +127,7 @@ impl Reader {
         }
     }
 
-    /// Passes the scalar of so many bytes that stands there.
+    /// Consumes the scalar of so many bytes that stands there.
     #[inline(always)]
     pub(crate) fn pass_scalar(&mut self, at: usize, len: usize) -> Span
         ensures { (buffer : List ℕ) (language : SpecLanguage) (place : SpecPlace) (value : Scalar)
@@ -141,7 +141,7 @@ impl Reader {
         span
     }
 
-    /// Passes the literal of these letters.
+    /// Consumes the literal of these letters.
     #[inline(always)]
     pub(crate) fn pass_word(&mut self, input: &[u8], at: usize, word: &[u8]) -> Option<Span>
         requires { at ≤ length input.now }
@@ -159,7 +159,7 @@ impl Reader {
         }
     }
 
-    /// Passes the bracket that closes a container of this kind, where one stands.
+    /// Consumes the bracket that closes a container of this kind, where one stands.
     #[inline(always)]
     pub(crate) fn pass_closing(&mut self, kind: ContainerKind, ahead: Ahead) -> Option<Span>
         ensures same { IfNone result (self.new ≡ self.old) }
@@ -173,7 +173,7 @@ impl Reader {
         }
     }
 
-    /// Passes the bracket that opens a container of this kind, where a value may stand and it does.
+    /// Consumes the bracket that opens a container of this kind, where a value may stand and it does.
     #[inline(always)]
     pub(crate) fn open_value(
         &mut self,
@@ -193,7 +193,7 @@ impl Reader {
         self.pass_opening(kind, at)
     }
 
-    /// Passes the bracket that opens a container of this kind, which stands there, where there is memory for it.
+    /// Consumes the bracket that opens a container of this kind, which stands there, where there is memory for it.
     #[inline(always)]
     pub(crate) fn pass_opening(&mut self, kind: ContainerKind, at: usize) -> Option<Span>
         ensures same { IfNone result (self.new ≡ self.old) }
@@ -204,7 +204,7 @@ impl Reader {
         self.move_past_start(kind, at)
     }
 
-    /// Passes a key whose quotes stand there and at `end`, and its colon.
+    /// Consumes a key whose quotes stand there and at `end`, and its colon.
     #[inline(always)]
     pub(crate) fn pass_key(
         &mut self,
@@ -352,7 +352,7 @@ impl<'de> Wanted<'de> for ParseEventKind<'de> {
     }
 }
 
-/// Passes a string without an escape, whose quote stands there: a text, or a key with its colon.
+/// Consumes a string without an escape, whose quote stands there: a text, or a key with its colon.
 #[inline(always)]
 fn string_event<'de>(
     reader: &mut Reader,
@@ -386,7 +386,7 @@ fn string_event<'de>(
     }
 }
 
-/// Passes the bracket that closes a container of this kind, which stands there.
+/// Consumes the bracket that closes a container of this kind, which stands there.
 #[inline(always)]
 fn end_event<'de>(reader: &mut Reader, kind: ContainerKind, ahead: Ahead) -> Option<Told<'de>>
     ensures { (buffer : List ℕ) (language : SpecLanguage) → slice_get buffer ahead.at ≡ Some (closing_bracket kind)
@@ -397,7 +397,7 @@ fn end_event<'de>(reader: &mut Reader, kind: ContainerKind, ahead: Ahead) -> Opt
     Some((closing(kind), span))
 }
 
-/// Passes the bracket that opens a container, or a whole literal or number, of which the first byte stands there.
+/// Consumes the bracket that opens a container, or a whole literal or number, of which the first byte stands there.
 #[inline(always)]
 fn value_event<'de>(
     reader: &mut Reader,
@@ -420,7 +420,7 @@ fn value_event<'de>(
     }
 }
 
-/// Passes the bracket that opens a container of this kind, where there is memory for it.
+/// Consumes the bracket that opens a container of this kind, where there is memory for it.
 #[inline(always)]
 fn start_event<'de>(reader: &mut Reader, kind: ContainerKind, at: usize) -> Option<Told<'de>>
     ensures { (buffer : List ℕ) (language : SpecLanguage) (place : SpecPlace) → MayBeValue place
@@ -432,7 +432,7 @@ fn start_event<'de>(reader: &mut Reader, kind: ContainerKind, at: usize) -> Opti
     Some((opening(kind), span))
 }
 
-/// Passes a whole literal or number, of which this is the first byte.
+/// Consumes a whole literal or number, of which this is the first byte.
 #[inline(always)]
 fn scalar_event<'de>(
     reader: &mut Reader,
@@ -465,7 +465,7 @@ fn scalar_event<'de>(
     }
 }
 
-/// Passes a number that allocates nothing, of which this is the first byte.
+/// Consumes a number that allocates nothing, of which this is the first byte.
 #[inline(always)]
 fn number_event<'de>(
     reader: &mut Reader,
@@ -491,7 +491,7 @@ fn number_event<'de>(
     }
 }
 
-/// Passes the decimal of so many bytes that stands here. The answer is a value of its own, so that no other event needs memory.
+/// Consumes the decimal of so many bytes that stands here. The answer is a value of its own, so that no other event needs memory.
 #[inline(always)]
 fn decimal_event<'de>(
     reader: &mut Reader,
@@ -509,7 +509,7 @@ fn decimal_event<'de>(
     event
 }
 
-/// Passes a decimal as `decimal_event`, by a call: it stays out of the code of other events.
+/// Consumes a decimal as `decimal_event`, by a call: it stays out of the code of other events.
 #[inline(never)]
 fn decimal_event_out_of_line<'de>(
     reader: &mut Reader,

@@ -21,7 +21,7 @@ pub trait Wanted<'de>: Sized + Drop {
     /// The event that it stands for.
     ghost kind: { Self → EventKind };
 
-    /// Passes it and answers it with its event's span, where a few bytes decide that it comes. Else nothing changes.
+    /// Consumes it and returns it with its event's span, where a few bytes decide that it comes. Else nothing changes.
     fn pass(
         reader: &mut Reader,
         input: &'de [u8],

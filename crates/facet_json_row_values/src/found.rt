@@ -20,7 +20,7 @@ pub fn answer_find(alloc: Global, text: &str, told: &mut Told) {
     told.line(line.as_str());
 }
 
-/// Appends how each search ends, and answers whether the last one finds something.
+/// Appends how each search ends, and returns whether the last one finds something.
 fn is_found(parser: &mut JsonParser<'_>, pointers: &str, line: &mut Told) -> bool {
     let mut is_found = false;
     for pointer in pointers.split('\n') {
@@ -30,7 +30,7 @@ fn is_found(parser: &mut JsonParser<'_>, pointers: &str, line: &mut Told) -> boo
     is_found
 }
 
-/// Appends how the search ends, and answers whether it finds something.
+/// Appends how the search ends, and returns whether it finds something.
 fn finds(parser: &mut JsonParser<'_>, pointer: &str, line: &mut Told) -> bool {
     match find_pointer(parser, pointer) {
         Ok(true) => {

@@ -129,7 +129,7 @@ fn is_written<'a, T: Facet<'a>>(alloc: Global, value: &T, text: &[u8]) -> bool {
     }
 }
 
-/// Tells a refusal, and where it stands.
+/// Tells a refusal, and its place.
 pub fn tell_refusal(error: &DeserializeError<'_>, told: &mut Told) {
     told.say("refused ");
     match error.span {

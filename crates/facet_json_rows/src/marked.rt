@@ -94,7 +94,7 @@ fn answer_queue(reading: Reading<'_>, limit: usize, told: &mut Told) {
     write_answer(alloc, &Answer::Events(events, ended), told);
 }
 
-/// Puts all events of an input of so many bytes into the queue, up to so many at a time, and answers how many it has then.
+/// Puts all events of an input of so many bytes into the queue, up to so many at a time, and returns how many it has then.
 fn fill<'de>(
     parser: &mut JsonParser<'de>,
     limit: usize,

@@ -83,7 +83,7 @@ fn are_split(alloc: Global, words: &str, args: &mut Vec<String>) -> bool {
     true
 }
 
-/// Appends the word, and answers whether there is memory for it.
+/// Appends the word, and returns whether there is memory for it.
 fn is_kept(alloc: Global, word: &str, args: &mut Vec<String>) -> bool {
     match String::from_str(alloc, word) {
         Ok(word) => args.push(word).is_ok(),

@@ -109,7 +109,7 @@ impl Scanner {
         self.pending = None;
     }
 
-    /// Answers the token after the gap at the position (RFC 8259, section 2), and stands after it.
+    /// Returns the token after the gap at the position (RFC 8259, section 2), and stands after it.
     ///
     /// Where the buffer ends inside of what may be a longer token or comment, the answer is `NeedMore` with the
     /// first byte of it, the span goes from there to the end of the buffer, and the position is that end. The next call
@@ -147,7 +147,7 @@ impl Scanner {
         }
     }
 
-    /// Answers what is pending, where no more bytes follow those up to the position: a number, the end after a line
+    /// Returns what is pending, where no more bytes follow those up to the position: a number, the end after a line
     /// comment, or a refusal. With nothing pending the answer is the end.
     ///
     /// Nothing is pending afterwards, and the position stays, unless the answer is a refusal.

@@ -67,7 +67,7 @@ fn scalar_kind(value: &ScalarValue<'_>, is_quoted: bool) -> Kind {
     }
 }
 
-/// The text of the number that the event is, as it stands in the input, or that a key holds: that one has to be a number of RFC 8259
+/// The text of the number that the event is, as it is in the input, or that a key holds: that one has to be a number of RFC 8259
 /// (section 6).
 pub(crate) fn number_in<'a>(
     event: &'a ParseEvent<'_>,

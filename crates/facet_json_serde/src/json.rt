@@ -147,7 +147,7 @@ fn passes<'de, W: Wanted<'de>>(parser: &mut JsonParser<'de>) -> bool {
     next_wanted::<W>(parser).is_some()
 }
 
-/// Passes a scalar, where a few bytes decide that it comes. Else nothing changes.
+/// Consumes a scalar, where a few bytes decide that it comes. Else nothing changes.
 fn passes_scalar<'de>(parser: &mut JsonParser<'de>) -> bool {
     passes::<&'de str>(parser) || passes::<Whole>(parser) || passes::<bool>(parser)
 }
@@ -407,7 +407,7 @@ impl<'de> Json<'de> {
         Ok(())
     }
 
-    /// Passes null, if it comes.
+    /// Consumes null, if it comes.
     #[inline(always)]
     pub(crate) fn passes_null(&mut self) -> Result<bool, ReadFault>
         ensures { IfOk result (λ b. MatchBool b (StepGives self.old [] nothing self.new)
@@ -514,7 +514,7 @@ impl<'de> Json<'de> {
         }
     }
 
-    /// Passes a value, of which one event is ahead.
+    /// Skips a value, of which one event is ahead.
     #[inline(never)]
     pub(crate) fn skip_ahead(&mut self) -> Result<(), ReadFault> {
         let event = self.take()?;
@@ -526,7 +526,7 @@ impl<'de> Json<'de> {
         }
     }
 
-    /// Passes the rest of a container: of a map's members the values unread.
+    /// Consumes the rest of a container: of a map's members the values unread.
     fn skip_rest(&mut self) -> Result<(), ReadFault> {
         let mut depth = 1u64;
         for _ in 0..u64::MAX {
@@ -547,7 +547,7 @@ impl<'de> Json<'de> {
         Ok(())
     }
 
-    /// Passes a value, unread.
+    /// Skips a value, unread.
     #[inline(always)]
     pub(crate) fn pass(&mut self) -> Result<(), ReadFault> {
         if passes_scalar(&mut self.parser) {
@@ -590,7 +590,7 @@ impl<'de> Json<'de> {
         }
     }
 
-    /// Keeps where it stands as the last mark.
+    /// Saves its position as the last mark.
     #[inline(always)]
     fn keep_here(&mut self) -> Result<(), ReadFault>
         ensures { OnOk result ((self.new.parser ≡ with_kept self.old.parser) × (self.new.ahead ≡ self.old.ahead)) }
@@ -615,7 +615,7 @@ impl<'de> Json<'de> {
         self.keep_here()
     }
 
-    /// Keeps where it stands as the last mark, or stops where there is no memory for it.
+    /// Saves its position as the last mark, or stops where there is no memory for it.
     #[inline(always)]
     pub(crate) fn keep(&mut self) {
         let is_ready = match &self.ahead {

@@ -31,7 +31,7 @@ pub fn from_slice<'t, 'de, T: Deserialize<'de>>(
     first_value(alloc, input, JsonParser::new(alloc, input))
 }
 
-/// Reads a value as `from_slice`, where comments may stand wherever white space may: `//` up to the line's end, and `/*` up to `*/`.
+/// Reads a value as `from_slice`, where comments are allowed wherever white space is: `//` up to the line's end, and `/*` up to `*/`.
 ///
 /// ```text
 /// from_slice_jsonc::<bool>(alloc, b"/* yes */ true")        Ok: true
@@ -141,7 +141,7 @@ pub fn from_str_strict<'t, 'de, T: Deserialize<'de>>(
     first_value(alloc, bytes, JsonParser::new_strict_trusted(alloc, bytes))
 }
 
-/// Reads the value before which the parser stands, and the end of its document.
+/// Reads the parser's next value, and the end of its document.
 fn first_value<'t, 'de, T: Deserialize<'de>>(
     alloc: Global,
     input: &'de [u8],

@@ -5,7 +5,7 @@ ghost use Rattle.std.specs.Prelude.{◌≡◌, ◌++◌, OnOk};
 use facet_json_escape::Sink;
 use std::alloc::AllocError;
 
-/// Appends bytes as they stand.
+/// Appends bytes verbatim.
 #[inline(always)]
 pub(crate) fn push_bytes(out: &mut Sink, bytes: &[u8]) -> Result<(), AllocError>
     ensures { OnOk result (out.new ≡ out.old ++ bytes.now) }

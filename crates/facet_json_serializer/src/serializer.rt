@@ -225,7 +225,7 @@ impl<'i> FormatSerializer for JsonSerializer<'i> {
         self.settle(answer)
     }
 
-    /// Writes a value by its JSON text, as it stands.
+    /// Writes a value by its JSON text, verbatim.
     ///
     /// # Errors
     ///

@@ -157,7 +157,7 @@ fn are_answered(
     if has_run_out { None } else { Some(true) }
 }
 
-/// Writes the padding, where there is one, as it stands. Whether memory ran out.
+/// Writes the padding, where there is one, verbatim. Whether memory ran out.
 fn is_refused(serializer: &mut JsonSerializer<'_>, padding: Option<&'static str>) -> bool {
     match padding {
         Some(json) => make(serializer, &Call::Raw(json)) == OUT_OF_MEMORY,

@@ -1,4 +1,4 @@
-//! ASCII, which is text as it stands.
+//! ASCII, which is text as it is.
 
 ghost use Rattle.std.specs.Prelude.{◌≡◌, ◌+◌, ◌≤◌, false, length, drop, nat_le, slice_range, IsUtf8, MatchOption};
 ghost use Rattle.std.specs.List.{prefix_len};

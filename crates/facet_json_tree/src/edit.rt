@@ -35,7 +35,7 @@ impl Tree {
         }
     }
 
-    /// Stores a value as an object's member of this name (RFC 8259, section 4), and answers the one that it had before, if it had one. Of
+    /// Stores a value as an object's member of this name (RFC 8259, section 4), and returns the one that it had before, if it had one. Of
     /// several members with one name the last counts, as for `get`, and its value is replaced. Where none has the name, a member is
     /// added at the end.
     ///
@@ -66,7 +66,7 @@ impl Tree {
         }
     }
 
-    /// Removes each member of an object that has this name (RFC 8259, section 4), and answers the value that `get` found, if it found one.
+    /// Removes each member of an object that has this name (RFC 8259, section 4), and returns the value that `get` found, if it found one.
     /// `get` finds none of this name afterwards. Other values have no members, and stay as they are.
     ///
     /// ```text
@@ -83,7 +83,7 @@ impl Tree {
         }
     }
 
-    /// Removes the item of a list at this index (RFC 8259, section 5), and answers it, if it is there. Those after it move up. Other values
+    /// Removes the item of a list at this index (RFC 8259, section 5), and returns it, if it is there. Those after it move up. Other values
     /// have no items, and stay as they are.
     ///
     /// ```text

@@ -1,4 +1,4 @@
-//! A member of an object to be changed where it stands, whether it was there or not.
+//! A member of an object to be changed in place, whether it was there or not.
 
 ghost use Rattle.std.specs.Prelude.{◌≡◌, ◌<◌, length, IfErr, IfOk, OnErr, OnOk};
 ghost use Rattle.std.specs.List.{HoldsAt};
@@ -16,7 +16,7 @@ use crate::tree::Tree;
 use std::alloc::Global;
 
 impl Tree {
-    /// The value that `get` finds, to be changed where it stands. Where none has the name, a member with this value is added at the end,
+    /// The value that `get` finds, to be changed in place. Where none has the name, a member with this value is added at the end,
     /// and is lent; where one has it, the given value is dropped.
     ///
     /// ```text

@@ -39,7 +39,7 @@ impl Tree {
         }
     }
 
-    /// The value that `get` finds, to be changed where it stands.
+    /// The value that `get` finds, to be changed in place.
     ///
     /// ```text
     /// if let Some(port) = tree.get_mut("port") {
@@ -55,7 +55,7 @@ impl Tree {
         }
     }
 
-    /// The item that `item` finds, to be changed where it stands.
+    /// The item that `item` finds, to be changed in place.
     ///
     /// ```text
     /// if let Some(first) = tree.item_mut(0) {

@@ -99,7 +99,7 @@ fn merge_member(
     Ok(())
 }
 
-/// Stores the value of a member, and answers the one that it had, or `null`.
+/// Stores the value of a member, and returns the one that it had, or `null`.
 fn store(
     members: &mut Vec<(String, Tree)>,
     alloc: Global,

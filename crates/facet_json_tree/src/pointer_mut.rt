@@ -1,4 +1,4 @@
-//! The value that a JSON pointer names (RFC 6901), to be changed where it stands.
+//! The value that a JSON pointer names (RFC 6901), to be changed in place.
 
 ghost use Rattle.std.specs.Prelude.{◌≡◌, ℕ, List, IfOk, IfErr, option_map, option_and_then};
 ghost use Rattle.facet_json_tree.specs.Inner.PointerParts.{unescaped};
@@ -13,7 +13,7 @@ use crate::pointer_error::PointerError;
 use crate::tree::Tree;
 
 impl Tree {
-    /// The value that `pointer` finds, to be changed where it stands (RFC 6901).
+    /// The value that `pointer` finds, to be changed in place (RFC 6901).
     ///
     /// ```text
     /// if let Some(port) = tree.pointer_mut("/servers/0/port")? {

@@ -91,7 +91,7 @@ pub fn tree_from_slice_jsonc<'t>(alloc: Global, input: &[u8]) -> Result<Tree, De
     document(alloc, input, Mode::Jsonc)
 }
 
-/// Reads the value before which the parser stands, and passes it. A parser that was refused repeats its refusal.
+/// Reads the parser's next value, and consumes it. A parser that was refused repeats its refusal.
 ///
 /// ```text
 /// let mut parser = JsonParser::new(alloc, b"[1, 2]");
@@ -147,7 +147,7 @@ pub fn parser_of<'de>(alloc: Global, input: &'de [u8], mode: Mode) -> JsonParser
     }
 }
 
-/// The value before which the parser stands, and within which no more containers than `depth` are opened around one another.
+/// The parser's next value, within which no more containers than `depth` are opened around one another.
 pub(crate) fn read_value<'t>(
     alloc: Global,
     parser: &mut JsonParser<'_>,
@@ -170,7 +170,7 @@ pub(crate) fn read_value<'t>(
     finish(alloc, parser, first, depth, &mut room)
 }
 
-/// The tree of the value before which the parser stands, its items or members still to be read. Passes its first event.
+/// The tree of the parser's next value, its items or members still to be read. Passes its first event.
 #[inline(always)]
 fn begin_value<'t>(
     alloc: Global,

@@ -85,7 +85,7 @@ pub fn tree_from_slice_within_strict<'t>(
     strict_document(alloc, JsonParser::new_strict(alloc, input), Some(depth))
 }
 
-/// The tree of the value before which a parser stands, which nests no deeper where there is a limit, and behind which is the end.
+/// The tree of the parser's next value, which nests no deeper where there is a limit, and behind which is the end.
 fn strict_document<'t>(
     alloc: Global,
     mut parser: JsonParser<'_>,

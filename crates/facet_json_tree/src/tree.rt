@@ -37,7 +37,7 @@ pub enum Tree {
     Text(String),
     /// Bytes, which are written as a list of numbers or as hexadecimal text.
     Bytes(Vec<u8>),
-    /// JSON text, which is written as it stands, unchecked: whoever makes such a value says that it is JSON. That of a `RawJson` is
+    /// JSON text, which is written verbatim, unchecked: whoever makes such a value says that it is JSON. That of a `RawJson` is
     /// `raw.0.into_owned(alloc)?`.
     Raw(String),
     /// An array.

@@ -96,7 +96,7 @@ fn write_pairs(
 // A value of each kind is written by a function of its own, out of line: so `write_tree` has no frame, and a value of one kind costs
 // nothing for the others.
 
-/// Writes a text that is JSON, as it stands.
+/// Writes a text that is JSON, verbatim.
 #[inline(never)]
 fn write_raw(serializer: &mut JsonSerializer<'_>, json: &str) -> Result<(), JsonSerializeError>
     ensures { Appends serializer.old (raw_scalar json.now) (call_answer_of result) serializer.new }

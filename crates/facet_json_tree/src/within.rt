@@ -101,7 +101,7 @@ fn document_within<'t>(
     value_within(alloc, parser_of(alloc, input, mode), depth)
 }
 
-/// The tree of the value before which a parser stands, which nests no deeper.
+/// The tree of the parser's next value, which nests no deeper.
 fn value_within<'t>(
     alloc: Global,
     mut parser: JsonParser<'_>,

@@ -14,7 +14,7 @@ use facet_format::DeserializeError;
 use facet_json_parser::JsonParser;
 use std::borrow::CowStr;
 
-/// Passes members of the object that is being read, up to the first key of this text (RFC 8259, section 4), which it passes too, or up to
+/// Skips members of the object that is being read, up to the first key of this text (RFC 8259, section 4), which it passes too, or up to
 /// the object's end. It answers whether such a key came: then its value comes next, and else the object is over. The values before it are
 /// passed undecoded, and a key is decoded only where it holds an escape. A key that came earlier is not found.
 ///

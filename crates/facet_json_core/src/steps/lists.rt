@@ -20,7 +20,7 @@ use facet_format::{DeserializeError, ParseEvent, ParseEventKind};
 use facet_json_parser::{JsonParser, comes_other};
 use facet_json_reader::{ListEnd, ListStart, Sought};
 
-/// Passes the event with which an array begins.
+/// Consumes the event with which an array begins.
 ///
 /// # Errors
 ///

@@ -18,7 +18,7 @@ use facet_format::{DeserializeError, ParseEvent, ParseEventKind, ScalarValue, Sp
 use facet_json_parser::{JsonParser, comes_other, next_wanted};
 use facet_json_reader::{Null, Sought, Wanted};
 
-/// Passes what is wanted and answers it with its event's span, where a few bytes decide that it comes. Else nothing changes: the next event
+/// Consumes what is wanted and returns it with its event's span, where a few bytes decide that it comes. Else nothing changes: the next event
 /// may still be what is wanted, and `next_of_value` tells. It allocates nothing.
 ///
 /// ```text
@@ -73,7 +73,7 @@ pub fn take_null<'t>(parser: &mut JsonParser<'_>) -> Result<bool, DeserializeErr
     }
 }
 
-/// Passes null.
+/// Consumes null.
 ///
 /// # Errors
 ///

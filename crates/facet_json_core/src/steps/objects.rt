@@ -20,7 +20,7 @@ use facet_json_reader::{Member, ObjectStart};
 use std::alloc::Global;
 use std::borrow::CowStr;
 
-/// Passes the event with which an object begins.
+/// Consumes the event with which an object begins.
 ///
 /// # Errors
 ///
@@ -54,7 +54,7 @@ fn object_in<'t>(event: ParseEvent<'_>) -> Result<(), DeserializeError<'t>>
     }
 }
 
-/// Passes a key of an object, or the object's end, which is none. The name is a slice of the input where no escape stands in it.
+/// Consumes a key of an object, or the object's end, which is none. The name is a slice of the input where no escape stands in it.
 ///
 /// ```text
 /// begin_object(parser)?;       of {"a":1}
@@ -99,7 +99,7 @@ fn name_in<'t, 'de>(event: ParseEvent<'de>) -> Result<Option<CowStr<'de>>, Deser
     }
 }
 
-/// Passes a key of an object, or the object's end, which is none. The name has memory of its own.
+/// Consumes a key of an object, or the object's end, which is none. The name has memory of its own.
 ///
 /// # Errors
 ///

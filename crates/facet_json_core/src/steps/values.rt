@@ -8,7 +8,7 @@ ghost use Rattle.facet_json_core.specs.Calls.{refusal_of, ahead, RefusalWithin, 
 use facet_format::{DeserializeError, FormatParser};
 use facet_json_parser::JsonParser;
 
-/// Passes a value of which nothing is known, and decodes nothing of it.
+/// Skips a value of which nothing is known, and decodes nothing of it.
 ///
 /// # Errors
 ///

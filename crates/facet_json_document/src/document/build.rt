@@ -62,7 +62,7 @@ pub(crate) fn build<'i, 't>(
 }
 
 impl<'i> Built<'i> {
-    /// Passes the next event, adds its node, and says whether there was one.
+    /// Consumes the next event, adds its node, and says whether there was one.
     #[inline(always)]
     fn adds_event<'t>(&mut self, parser: &mut JsonParser<'i>) -> Result<bool, DeserializeError<'t>>
         requires { parser.old.buffer ≡ self.old.input.now }
@@ -167,7 +167,7 @@ impl<'i> Built<'i> {
         }
     }
 
-    /// Holds a value beside the nodes, and answers its index.
+    /// Holds a value beside the nodes, and returns its index.
     #[inline(always)]
     fn hold(&mut self, value: ScalarValue<'i>) -> Result<usize, AllocError>
         ensures same { OnOk result (built_view self.new ≡ built_view self.old) }

@@ -57,7 +57,7 @@ pub fn skip_passes_run()
 {}
 
 /// On every input a capture of a parser that isn't refused and stands before a value passes the run that begins there, as a
-/// skip does, and answers its bytes. It is refused only where the skip is, or where the bytes aren't UTF-8.
+/// skip does, and returns its bytes. It is refused only where the skip is, or where the bytes aren't UTF-8.
 pub fn capture_passes_run()
     ensures { CapturePassesRun }
 {}
@@ -101,7 +101,7 @@ pub fn strict_headline()
 /// event or a peek answers the end or a batch is given fewer events than it asks for, the whole input is one balanced run of tokens.
 /// Its brackets are closed in order, each by one of its own kind, no fault stands among its tokens, and nothing but a gap follows them.
 ///
-/// So a strict parser that skips a value at the root, and then answers the end, has passed all of the input: `[1, {"a": 2}]` may end so,
+/// So a strict parser that skips a value at the root, and then returns the end, has passed all of the input: `[1, {"a": 2}]` may end so,
 /// but not `[1] 2`, `[1}`, `[1` or `[1, @]`. What it skipped may be a run that is no document, as `[1,]` is.
 pub fn strict_ends_at_run()
     ensures ends { StrictEndsAtRun }
