@@ -49,7 +49,7 @@ module _ {P : Type 0} (w : World P) where
   shows-refused c _ _ none (shows_nothing r up so) = cursor.peeks_at_nothing r none up so
 
 -- A parser that holds no refusal has none.
-no_refusal : (refusal : Option Refused) → is_some refusal ≡ false → option_map refused_of refusal ≡ None
+pub no_refusal : (refusal : Option Refused) → is_some refusal ≡ false → option_map refused_of refusal ≡ None
 no_refusal None e = refl
 no_refusal (Some r) e = cc
 

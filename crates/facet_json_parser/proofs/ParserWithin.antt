@@ -6,11 +6,11 @@ use Rattle.std.specs.Option.{option_map}
 use Rattle.std.proofs.lemmas.List.Elements.{All-cons, All-nil}
 use Rattle.facet_format.specs.declared.event.ParseEvent.{ParseEvent}
 use Rattle.facet_format.specs.declared.parse_error.ParseError.{ParseError}
-use Rattle.facet_format.specs.Views.{event_of, answer_of_event}
+use Rattle.facet_format.specs.Views.{event_of, answer_of_event, answer_of_skip}
 use Rattle.facet_format.specs.Complaint.{Refusal}
 use Rattle.facet_format.specs.Event.{Event}
 use Rattle.facet_format.specs.Kept.{found, without}
-use Rattle.facet_format.specs.Cursor.{Call, next, events, save, restore, Spot, Cursor, refused_at, Answer, event, batch, spans, Step, gives_none}
+use Rattle.facet_format.specs.Cursor.{Call, next, events, skip, save, restore, Spot, Cursor, refused_at, Answer, event, batch, spans, Step, gives_none}
 use Rattle.facet_format.specs.Span.{Span}
 use Rattle.facet_format.specs.Steps.{IsStep}
 use Rattle.facet_json_grammar.specs.Language.{Language}
@@ -25,7 +25,7 @@ use Rattle.facet_json_grammar.proofs.MovesNext.{next-passes}
 use Rattle.facet_json_parser.specs.Inner.Wanted.{PassesWanted}
 use Rattle.facet_json_grammar.proofs.MoveLaws.{with_cursor, same_cursor-is}
 use Rattle.facet_json_grammar.proofs.Spans.AnswersWithin.{moves-within, current-within}
-use Rattle.facet_json_grammar.proofs.Spans.BytesAhead.{moves-onward, moves-goes_on, next-lowers, events-lower}
+use Rattle.facet_json_grammar.proofs.Spans.BytesAhead.{moves-onward, moves-goes_on, next-lowers, events-lower, skip-lowers}
 use Rattle.facet_json_parser.proofs.KeptSpots.{found-spot}
 use Rattle.facet_json_parser.proofs.PointsByPlace.{above-missing, without-missing}
 use Rattle.facet_json_parser.specs.Lookahead.{Lookahead, first_lookahead, spot_of}
@@ -96,6 +96,12 @@ pub result-lowers : (old new : Now) (r : Result (Option ParseEvent) ParseError) 
     IfOk r (λ o. OnSome o (ahead new < ahead old))
 result-lowers old new (Ok o) good move = event-lowers old new o good move
 result-lowers old new (Err e) good move = tt
+
+-- So it does after a skip.
+pub skip-shortens : (old new : Now) (r : Result (Unit {0}) ParseError) → NowWithin old → Moves old skip (answer_of_skip r) new →
+    IfOk r (λ _. ahead new < ahead old)
+skip-shortens old new (Ok u) good move = skip-lowers old good new move
+skip-shortens old new (Err e) good move = tt
 
 -- What is wanted is passed as an event is.
 pub wanted-passes : {A : Type 0} (given : A → Event) (old new : Now) (o : Option A) → NowWithin old →

@@ -20,7 +20,7 @@ use Rattle.facet_json_grammar.specs.Reader.{Reader}
 use Rattle.facet_json_grammar.specs.Future.{around}
 use Rattle.facet_json_grammar.specs.Language.{Language, gaps}
 use Rattle.facet_json_grammar.specs.Node.{is_scalar}
-use Rattle.facet_json_grammar.specs.Place.{Place, root, before_key, after_key, after_colon, after_member, before_item, next_key, next_item, after_item, Turn, stops, leads_on, place_turn, value_turn, goes_on}
+use Rattle.facet_json_grammar.specs.Place.{Place, root, before_key, after_key, after_colon, after_member, before_item, next_key, next_item, after_item, Turn, stops, leads_on, place_turn, value_turn, says_scalar, goes_on}
 use Rattle.facet_json_grammar.specs.Run.{opening}
 use Rattle.facet_json_grammar.specs.Unread.{begins_value, past_value, past_key, at_end, at_fault, misplaced, HasColon, colon_stands, colon_missing, a_value, a_broken_value, a_key, a_closing, PartAt}
 use Rattle.facet_json_grammar.proofs.Runs.OneRun.{runs_or_breaks_off}
@@ -52,6 +52,33 @@ value-root next_item kind e = begins-on (value_turn kind) e
 value-root next_key (token.string a b h) e = cc
 value-root next_key _ e = cc
 value-root _ _ e = cc
+
+-- What reads as a scalar is one.
+scalar-value : (kind : Kind) → value_turn kind ≡ says_scalar → is_scalar kind ≡ true
+scalar-value token.null e = refl
+scalar-value token.true_literal e = refl
+scalar-value token.false_literal e = refl
+scalar-value (token.string a b h) e = refl
+scalar-value (token.number a b h) e = refl
+scalar-value _ e = cc
+
+pub scalar-turns : (place : Place) (kind : Kind) → place_turn place kind ≡ says_scalar → is_scalar kind ≡ true
+scalar-turns root kind e = scalar-value kind e
+scalar-turns after_colon kind e = scalar-value kind e
+scalar-turns before_item token.array_end e = cc
+scalar-turns before_item kind e = scalar-value kind e
+scalar-turns before_key token.object_end e = cc
+scalar-turns before_key (token.string a b h) e = cc
+scalar-turns before_key _ e = cc
+scalar-turns after_key token.colon e = cc
+scalar-turns after_member token.comma e = cc
+scalar-turns after_member token.object_end e = cc
+scalar-turns after_item token.comma e = cc
+scalar-turns after_item token.array_end e = cc
+scalar-turns next_item kind e = scalar-value kind e
+scalar-turns next_key (token.string a b h) e = cc
+scalar-turns next_key _ e = cc
+scalar-turns _ _ e = cc
 
 -- An opening bracket is no scalar.
 bracket-no_scalar : (kind : ContainerKind) (k : Kind) → k ≡ opening kind → not (is_scalar k) ≡ true

@@ -1,6 +1,6 @@
 //! Where a parser stands: after the last token that was passed, with an event that is read but not passed.
 
-ghost use Rattle.std.specs.Prelude.{◌≡◌, ◌≤◌, ℕ, true, List, None, length, IfOk, IfErr, OnOk, MatchOption, MatchResult, Ok, Err, Some};
+ghost use Rattle.std.specs.Prelude.{◌≡◌, ◌≤◌, ℕ, true, false, List, None, length, IfOk, IfErr, OnOk, MatchOption, MatchResult, Ok, Err, Some};
 ghost use Rattle.std.specs.Prelude.{OnSome, IsUtf8, ◌<◌};
 ghost use Rattle.std.specs.Option.{option_map};
 ghost use Rattle.std.specs.VecDeque.{deque_len, deque_capacity};
@@ -22,7 +22,7 @@ ghost use Rattle.facet_json_parser.specs.Views.{lookahead_of};
 ghost use Rattle.facet_json_parser.specs.Inner.Wanted.{NeverGives};
 ghost use Rattle.facet_json_reader.specs.Inner.Soughts.{event_of_sought};
 
-use crate::part::{Part, find};
+use crate::part::{Part, find, scalar_in_sight};
 use crate::passing::{capture, leave, pass};
 use facet_format::{ParseEvent, ParseEventKind, Span};
 use facet_json_reader::{Held, Language, Reader, Refused, Sought, Wanted};
@@ -180,6 +180,26 @@ impl<'de> Lookahead<'de> {
             Ok(()) => Ok(self.take()),
             Err(_) => Err(Refused::out_of_memory(self.span())),
         }
+    }
+
+    /// Skips a scalar, where no event is held and a look at its bytes tells it whole. Else nothing changes.
+    #[inline(always)]
+    pub fn skip_scalar(&mut self, input: &[u8], language: Language) -> bool
+        requires sound { IsSound input.now (language_of language) (lookahead_of self.old) }
+        ensures sound { IsSound input.now (language_of language) (lookahead_of self.new) }
+        ensures same { result ≡ false → self.new ≡ self.old }
+        ensures passed { result ≡ true → SkipsOne (on_input input.now (language_of language)) (spot_of (lookahead_of self.old)) (Ok tt)
+            (spot_of (lookahead_of self.new)) }
+    {
+        if self.held.is_some() {
+            return false;
+        }
+        let Some(scalar) = scalar_in_sight(&self.reader, input, language) else {
+            return false;
+        };
+        let last = scalar.span;
+        self.leave(&Part::Value(scalar), last);
+        true
     }
 
     /// Skips what stands next, its text unread: a value with all that it holds, a key with its colon, or a closing bracket.

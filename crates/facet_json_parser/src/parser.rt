@@ -1,6 +1,6 @@
 //! Reads a document event by event, with a look ahead and points to go back to.
 
-ghost use Rattle.std.specs.Prelude.{◌≡◌, ◌≤◌, ◌+◌, suc, true, List, Some, None, Ok, Err, ◌<◌, length, ◌++◌, OnSome, IfOk, IfErr, IfSome};
+ghost use Rattle.std.specs.Prelude.{◌≡◌, ◌≤◌, ◌+◌, suc, true, false, List, Some, None, Ok, Err, ◌<◌, length, ◌++◌, OnSome, IfOk, IfErr, IfSome};
 ghost use Rattle.std.specs.Prelude.{IfNone, IsSome, IsUtf8, map, codes, MatchOption, MatchResult};
 ghost use Rattle.std.specs.Option.{option_map};
 ghost use Rattle.std.specs.VecDeque.{deque_len, deque_capacity};
@@ -265,6 +265,31 @@ impl<'de> JsonParser<'de> {
         }
     }
 
+    /// Skips a scalar, where a look at its bytes tells it whole. Else nothing changes.
+    #[inline(always)]
+    fn skip_scalar(&mut self) -> bool
+        ensures skipped { result ≡ true → Moves self.old skip (answer_of_skip (Ok tt)) self.new }
+        ensures same { result ≡ false → self.new ≡ self.old }
+        ensures within { NowWithin self.old }
+    {
+        if self.refusal.is_some() {
+            return false;
+        }
+        self.lookahead.skip_scalar(self.input, self.language)
+    }
+
+    /// Skips what stands next, by a call, so that a scalar, which never goes through this, needs no memory.
+    #[inline(never)]
+    fn skip_out_of_line<'t>(&mut self) -> Result<(), ParseError<'t>>
+        ensures { Moves self.old skip (answer_of_skip result) self.new }
+    {
+        self.unrefused()?;
+        match self.lookahead.skip(self.alloc, self.input, self.language) {
+            Ok(()) => Ok(()),
+            Err(refused) => Err(self.refuse(refused)),
+        }
+    }
+
     /// The next event, once the queue has room for it.
     fn next_with_room<'t>(
         &mut self,
@@ -421,11 +446,10 @@ impl<'de> FormatParser<'de> for JsonParser<'de> {
         ensures onward { GoesOn self.old self.new }
         ensures shorter { IfOk result (λ _. ahead self.new < ahead self.old) }
     {
-        self.unrefused()?;
-        match self.lookahead.skip(self.alloc, self.input, self.language) {
-            Ok(()) => Ok(()),
-            Err(refused) => Err(self.refuse(refused)),
+        if self.skip_scalar() {
+            return Ok(());
         }
+        self.skip_out_of_line()
     }
 
     /// Consumes the next value with all that it holds, as a skip does, and returns its bytes as they are in the input, from its

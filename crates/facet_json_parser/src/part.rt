@@ -1,6 +1,6 @@
 //! Finds what stands first where a reader goes on, by its first token.
 
-ghost use Rattle.std.specs.Prelude.{◌≡◌, ◌≤◌, ◌<◌, ◌^◌, ℕ, false, List, Some, length, codes, IfOk, IfErr};
+ghost use Rattle.std.specs.Prelude.{◌≡◌, ◌≤◌, ◌<◌, ◌^◌, ℕ, true, false, List, Some, length, codes, IfOk, IfErr, IfSome};
 ghost use Rattle.facet_format.specs.Complaint.{refusal_at, unexpected_eof};
 ghost use Rattle.facet_format.specs.Event.{ContainerKind as SpecContainer};
 ghost use Rattle.facet_format.specs.Part.{nothing};
@@ -9,6 +9,7 @@ ghost use Rattle.facet_format.specs.Views.{span_of};
 ghost use Rattle.facet_json_token.specs.Token.{Kind};
 ghost use Rattle.facet_json_token.specs.Tokens.{Tokens, ended, next};
 ghost use Rattle.facet_json_token.specs.Views.{kind_of};
+ghost use Rattle.facet_json_grammar.specs.Node.{is_scalar};
 ghost use Rattle.facet_json_grammar.specs.Place.{Place as SpecPlace, expected_at, goes_on};
 ghost use Rattle.facet_json_grammar.specs.Unread.{unread_name, IsStuckUnread, PartAt};
 ghost use Rattle.facet_json_reader.specs.PlaceViews.{language_of, place_of, expected_text, name_text, refused_of};
@@ -17,6 +18,7 @@ ghost use Rattle.facet_json_parser.specs.PartViews.{first_span_of, IsFirst};
 
 use facet_format::Span;
 use facet_json_reader::{Expected, Language, Name, Place, Reader, Refused, Stage, Turn, Why};
+use facet_json_token::quick::{gap_end, token_in_sight};
 use facet_json_token::{SpannedToken, Token, cut};
 
 /// What stands first, by its first token.
@@ -60,6 +62,26 @@ pub fn find(reader: &Reader, input: &[u8], language: Language) -> Result<Part, R
             Turn::Scalar => return Ok(Part::Value(token)),
             Turn::Names => return Ok(Part::Key(token.span)),
         }
+    }
+}
+
+/// The scalar that stands first, where no separator is before it and a look at its bytes tells it whole.
+#[inline(always)]
+pub fn scalar_in_sight(reader: &Reader, input: &[u8], language: Language) -> Option<SpannedToken>
+    requires { stop (span_of reader.now.last) ≤ length input.now }
+    ensures found { (stack : List SpecContainer) → IfSome result
+        (λ t. IsFirst input.now (language_of language) (record (reader_of reader.now) { stack = stack }) (Part.Value t)) }
+    ensures scalar { (kind : Kind) → IfSome result (λ t. kind_of t.token ≡ Some kind → is_scalar kind ≡ true) }
+    ensures within { IfSome result (λ t. stop (span_of t.span) ≤ length input.now) }
+{
+    let Stage::Within(place) = reader.stage else {
+        return None;
+    };
+    let at = gap_end(input, reader.last.end(), language.mode());
+    let token = token_in_sight(input, at)?;
+    match place.turn(&token.token) {
+        Turn::Scalar => Some(token),
+        _ => None,
     }
 }
 
