@@ -12,11 +12,11 @@ pub record Moves (old : Now) (call : Call) (answer : Answer) (new : Now) : Type 
   pub input : SameInput old new
   pub step : Step (on_input old.buffer old.language) old.cursor call answer new.cursor
 
--- The next event is this one,
+-- The next event is this one.
 abbrev pub MovesBy : Now → Event → Now → Type 0
 MovesBy old given new = Moves old next (event (Ok (Some given))) new
 
--- and is a step of a cursor on the walk of a document, where one stands.
+-- Where the input has a document, that is a step of a cursor on its walk.
 abbrev pub StepsBy : Now → Event → Now → Type 0
 StepsBy old given new = IsStep StandsAt old next (event (Ok (Some given))) new
 

@@ -34,24 +34,28 @@ begins-on : (w : Turn) → begins_value w ≡ true → leads_on w ≡ true
 begins-on stops e = cc
 begins-on _ e = refl
 
--- A token that begins a value somewhere begins one at the root.
+-- Where a token begins a value, it is there what it is wherever a value may stand.
+value-anywhere : (place : Place) (kind : Kind) → begins_value (place_turn place kind) ≡ true → place_turn place kind ≡ value_turn kind
+value-anywhere root kind e = refl
+value-anywhere after_colon kind e = refl
+value-anywhere before_item token.array_end e = cc
+value-anywhere before_item kind e = refl
+value-anywhere before_key token.object_end e = cc
+value-anywhere before_key (token.string a b h) e = cc
+value-anywhere before_key _ e = cc
+value-anywhere after_key token.colon e = cc
+value-anywhere after_member token.comma e = cc
+value-anywhere after_member token.object_end e = cc
+value-anywhere after_item token.comma e = cc
+value-anywhere after_item token.array_end e = cc
+value-anywhere next_item kind e = refl
+value-anywhere next_key (token.string a b h) e = cc
+value-anywhere next_key _ e = cc
+value-anywhere _ _ e = cc
+
+-- So it begins one at the root.
 pub value-root : (place : Place) (kind : Kind) → begins_value (place_turn place kind) ≡ true → goes_on root kind ≡ true
-value-root root kind e = begins-on (value_turn kind) e
-value-root after_colon kind e = begins-on (value_turn kind) e
-value-root before_item token.array_end e = cc
-value-root before_item kind e = begins-on (value_turn kind) e
-value-root before_key token.object_end e = cc
-value-root before_key (token.string a b h) e = cc
-value-root before_key _ e = cc
-value-root after_key token.colon e = cc
-value-root after_member token.comma e = cc
-value-root after_member token.object_end e = cc
-value-root after_item token.comma e = cc
-value-root after_item token.array_end e = cc
-value-root next_item kind e = begins-on (value_turn kind) e
-value-root next_key (token.string a b h) e = cc
-value-root next_key _ e = cc
-value-root _ _ e = cc
+value-root place kind e = begins-on (value_turn kind) (sym (ap begins_value (value-anywhere place kind e)) ∙ e)
 
 -- What reads as a scalar is one.
 scalar-value : (kind : Kind) → value_turn kind ≡ says_scalar → is_scalar kind ≡ true
@@ -63,22 +67,7 @@ scalar-value (token.number a b h) e = refl
 scalar-value _ e = cc
 
 pub scalar-turns : (place : Place) (kind : Kind) → place_turn place kind ≡ says_scalar → is_scalar kind ≡ true
-scalar-turns root kind e = scalar-value kind e
-scalar-turns after_colon kind e = scalar-value kind e
-scalar-turns before_item token.array_end e = cc
-scalar-turns before_item kind e = scalar-value kind e
-scalar-turns before_key token.object_end e = cc
-scalar-turns before_key (token.string a b h) e = cc
-scalar-turns before_key _ e = cc
-scalar-turns after_key token.colon e = cc
-scalar-turns after_member token.comma e = cc
-scalar-turns after_member token.object_end e = cc
-scalar-turns after_item token.comma e = cc
-scalar-turns after_item token.array_end e = cc
-scalar-turns next_item kind e = scalar-value kind e
-scalar-turns next_key (token.string a b h) e = cc
-scalar-turns next_key _ e = cc
-scalar-turns _ _ e = cc
+scalar-turns place kind e = scalar-value kind (sym (value-anywhere place kind (ap begins_value e)) ∙ e)
 
 -- An opening bracket is no scalar.
 bracket-no_scalar : (kind : ContainerKind) (k : Kind) → k ≡ opening kind → not (is_scalar k) ≡ true
