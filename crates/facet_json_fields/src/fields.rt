@@ -372,9 +372,17 @@ fn is_same(name: &str, key: &str) -> bool
         return false;
     }
     if name.len() > 16 {
-        return name == key;
+        return is_same_long(name, key);
     }
     common_len(key.as_bytes(), 0, name.as_bytes()) == name.len()
+}
+
+/// Whether a key is this long name, by a call, so that no address of a short one is taken.
+#[inline(never)]
+fn is_same_long(name: &str, key: &str) -> bool
+    ensures { result ≡ bytes_eq name.now key.now }
+{
+    name == key
 }
 
 /// The first of the names.
