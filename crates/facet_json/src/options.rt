@@ -1,6 +1,6 @@
 //! Typed reads by options: the language, what may be borrowed, and how deep the input may nest.
 
-ghost use Rattle.std.specs.Prelude.{◌≡◌, false, true, Some, None, OnOk, OnErr, IfOk, IfErr, MatchResult};
+ghost use Rattle.std.specs.Prelude.{◌≡◌, false, true, Some, None, OnOk, OnErr, IfOk, IfErr, IsUtf8, MatchResult};
 ghost use Rattle.facet_format.specs.Span.{Span as SpecSpan};
 ghost use Rattle.facet_format.specs.Views.{refusal_of};
 ghost use Rattle.facet_json_grammar.specs.UnreadLaws.{RefusalWithin};
@@ -13,6 +13,7 @@ use facet_format::{DeserializeError, DeserializeErrorKind};
 use facet_json_facet::{Facet, first_value, whole_value};
 use facet_json_parser::JsonParser;
 use facet_json_reader::Language;
+use facet_json_token::Trust;
 use std::alloc::Global;
 
 /// What a typed read allows.
@@ -144,24 +145,7 @@ pub fn from_slice_with_options<'t, 'de, T: Facet<'de>>(
     ensures owned { options.borrows ≡ false → IfOk result T.owned }
     ensures within { IfErr result (λ e. RefusalWithin input.now (refusal_of e)) }
 {
-    options.check_depth(input)?;
-    match options.language {
-        Language::Plain => first_value(alloc, &mut JsonParser::new(alloc, input), options.borrows),
-        Language::Jsonc => {
-            first_value(
-                alloc,
-                &mut JsonParser::new_jsonc(alloc, input),
-                options.borrows,
-            )
-        }
-        Language::Strict => {
-            whole_value(
-                alloc,
-                &mut JsonParser::new_strict(alloc, input),
-                options.borrows,
-            )
-        }
-    }
+    read_allowed(alloc, input, options, Trust::Nothing)
 }
 
 /// Reads a value as `from_slice_with_options`, from a text, which is known to be UTF-8.
@@ -187,29 +171,31 @@ pub fn from_str_with_options<'t, 'de, T: Facet<'de>>(
     ensures owned { options.borrows ≡ false → IfOk result T.owned }
     ensures within { IfErr result (λ e. RefusalWithin input.now (refusal_of e)) }
 {
-    let bytes = input.as_bytes();
-    options.check_depth(bytes)?;
+    read_allowed(alloc, input.as_bytes(), options, Trust::Utf8)
+}
+
+/// Reads a value as the options say, of an input that is trusted to be UTF-8 or not.
+#[inline(always)]
+fn read_allowed<'t, 'de, T: Facet<'de>>(
+    alloc: Global,
+    input: &'de [u8],
+    options: ReadOptions,
+    trust: Trust,
+) -> Result<T, DeserializeError<'t>>
+    requires utf8 { trust ≡ Trust.Utf8 → IsUtf8 input.now }
+    ensures shallow { OnOk result ((span : SpecSpan) → IsTooDeep options input.now span → ⊥) }
+    ensures deeper { (span : SpecSpan) → IsTooDeep options input.now span
+        → MatchResult result (λ _. ⊥) (λ e. refusal_of e ≡ too_deep_at span) }
+    ensures value { ((span : SpecSpan) → IsTooDeep options input.now span → ⊥)
+        → ReadIn (language_of options.language) options.borrows T.shape.reading_borrowed T.shape.reading T.whole T.view input.now
+        result }
+    ensures owned { options.borrows ≡ false → IfOk result T.owned }
+    ensures within { IfErr result (λ e. RefusalWithin input.now (refusal_of e)) }
+{
+    options.check_depth(input)?;
+    let mut parser = JsonParser::in_language(alloc, input, options.language, trust);
     match options.language {
-        Language::Plain => {
-            first_value(
-                alloc,
-                &mut JsonParser::new_trusted(alloc, bytes),
-                options.borrows,
-            )
-        }
-        Language::Jsonc => {
-            first_value(
-                alloc,
-                &mut JsonParser::new_jsonc_trusted(alloc, bytes),
-                options.borrows,
-            )
-        }
-        Language::Strict => {
-            whole_value(
-                alloc,
-                &mut JsonParser::new_strict_trusted(alloc, bytes),
-                options.borrows,
-            )
-        }
+        Language::Plain | Language::Jsonc => first_value(alloc, &mut parser, options.borrows),
+        Language::Strict => whole_value(alloc, &mut parser, options.borrows),
     }
 }
