@@ -1,6 +1,6 @@
-//! Types that are read from JSON and written as JSON: the trait `Facet`, and the types of std and of this library that have it. `from_slice`,
-//! `from_str` and their kin read a value from a whole input: they borrow or do not, read strictly or comments too, or the first of several
-//! values. What it means that a type is read is defined in `facet_json_core`.
+//! Types that are read from JSON and written as JSON: the trait `Facet`, and the types of std and of this library that have it.
+//! `from_slice`, `from_str` and their kin read a value from a whole input: they borrow or do not, read strictly or comments too, or the
+//! first of several values. What it means that a type is read is defined in `facet_json_core`.
 #![tactic(auto)]
 
 mod facet;

@@ -17,8 +17,8 @@ use facet_json_tree::Tree;
 use std::alloc::{AllocError, Global};
 use std::process::Abort;
 
-/// An object or a list, the number that is found in it, as it is written, and the last token before each event for which the parser may want
-/// memory.
+/// An object or a list, the number that is found in it, as it is written, and the last token before each event for which the parser may
+/// want memory.
 type Search<'s> = (&'s str, &'s str, &'s [(usize, usize)]);
 
 /// Objects in which the number at the key `ab` is searched.

@@ -1,5 +1,5 @@
-//! Tests of `facet_json_facet`, `facet_json` and `facet_json_examples`, with ample memory and with failed allocations. What values are read of
-//! which texts, the rows of `facet_json_rows` say.
+//! Tests of `facet_json_facet`, `facet_json` and `facet_json_examples`, with ample memory and with failed allocations. What values are read
+//! of which texts, the rows of `facet_json_rows` say.
 #![tactic(auto)]
 
 #[cfg(test)]

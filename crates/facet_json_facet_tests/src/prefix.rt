@@ -67,8 +67,8 @@ fn values_end_where_they_do(rt: HostRuntime) {
     }
 }
 
-/// Inputs of numbers one after another: their sum, how many there are before a refusal or the end, the offset up to which the input was read
-/// then, and where the refusal stands, if one comes.
+/// Inputs of numbers one after another: their sum, how many there are before a refusal or the end, the offset up to which the input was
+/// read then, and where the refusal stands, if one comes.
 static STREAMS: [(&str, u64, usize, usize, Option<Span>); 9] = [
     ("", 0, 0, 0, None),
     (" \n", 0, 0, 2, None),

@@ -1,5 +1,5 @@
-//! Structs, field by field: `read_fields` reads one from a JSON object (RFC 8259, section 4), in whatever order its members stand, and passes
-//! unknown ones undecoded; `write_fields` writes one.
+//! Structs, field by field: `read_fields` reads one from a JSON object (RFC 8259, section 4), in whatever order its members stand, and
+//! passes unknown ones undecoded; `write_fields` writes one.
 #![tactic(auto)]
 
 mod fields;

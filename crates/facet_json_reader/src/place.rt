@@ -25,7 +25,7 @@ use facet_json_token::{
 pub enum Language {
     /// RFC 8259 with lenient readings, such as a trailing comma.
     Plain,
-    /// The same, and comments are allowed wherever white space is.
+    /// As `Plain`, and comments are allowed wherever white space is.
     Jsonc,
     /// RFC 8259 alone, from the input's start to its end.
     Strict,

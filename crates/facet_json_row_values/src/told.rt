@@ -29,7 +29,7 @@ impl Told {
         }
     }
 
-    /// The same, or that memory was lacking, which is like nothing else that is told.
+    /// What is told, or that memory was lacking, which is like nothing else that is told.
     pub fn as_str(&self) -> &str {
         self.whole().unwrap_or("OUT OF MEMORY")
     }

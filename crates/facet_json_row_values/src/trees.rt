@@ -16,7 +16,7 @@ pub fn tree_of(alloc: Global, text: &str) -> Option<Tree> {
     }
 }
 
-/// The same of a text that is no `list`.
+/// The tree of a text that is no `list`: of one value, which its first word names.
 fn leaf_of(alloc: Global, text: &str) -> Option<Tree> {
     match first_word(text) {
         ("unit", _) => Some(Tree::Unit),

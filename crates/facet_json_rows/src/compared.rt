@@ -60,13 +60,13 @@ impl<'a> Reading<'a> {
 pub enum Way<'a> {
     /// All events and the end, one at a time.
     ByNext,
-    /// The same, each after a look at it.
+    /// All events and the end, one at a time, each after a look at it.
     ByPeekAndNext,
-    /// The same, all at once.
+    /// All events and the end, at once.
     ByEvents,
     /// How many of the first so many events come, one at a time, and then the next one and the span.
     FirstByNext(usize),
-    /// The same, all at once.
+    /// How many of the first so many events come, at once, and then the next one and the span.
     FirstByEvents(usize),
     /// The answers to these calls.
     ByCalls(&'a [Call]),
@@ -207,7 +207,7 @@ fn tell_by_next(alloc: Global, parser: &mut JsonParser<'_>, len: usize, told: &m
     push_answers(alloc, parser, &[Call::Next, Call::Span], Telling::New, told);
 }
 
-/// The same, each after a look at it, which shows the same.
+/// Tells all events and the end, one at a time, each after a look at it, which has to show what comes.
 fn tell_by_peek_and_next(alloc: Global, parser: &mut JsonParser<'_>, len: usize, told: &mut Told) {
     for _ in 0..=len {
         push_answers(alloc, parser, &[Call::Peek], Telling::New, told);

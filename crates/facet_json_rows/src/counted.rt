@@ -21,7 +21,7 @@ fn count<'de, 't, P: FormatParser<'de>>(parser: &mut P) -> Result<usize, ParseEr
     Ok(count)
 }
 
-/// The same, refused as a reader of values refuses.
+/// How many events come, refused as a reader of values refuses.
 fn count_read<'de, 't, P: FormatParser<'de>>(parser: &mut P) -> Result<usize, DeserializeError<'t>>
     requires fits { P.ahead parser.old < 2 ^ 64 }
 {

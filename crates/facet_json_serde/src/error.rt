@@ -183,8 +183,8 @@ impl Error<'static> {
     }
 }
 
-/// An error with the source that its span is of. Displayed, it is the message, the line and the column: one line, as a log wants it. An error
-/// without a span is its message alone.
+/// An error with the source that its span is of. Displayed, it is the message, the line and the column: one line, as a log wants it. An
+/// error without a span is its message alone.
 #[derive(Debug, Clone, Copy, Drop)]
 pub struct Placed<'a> {
     /// The error.

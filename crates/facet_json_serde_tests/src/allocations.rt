@@ -1,6 +1,6 @@
-//! Failed allocations. With ample memory this test passes as any other does. `checks/allocations` runs it once more for each of its requests for
-//! memory, which is refused, and it has to pass in every such run. Each text is tried twice: as one request is refused in a run, memory runs out
-//! in one of the two at most, and the other gives the whole answer.
+//! Failed allocations. With ample memory this test passes as any other does. `checks/allocations` runs it once more for each of its
+//! requests for memory, which is refused, and it has to pass in every such run. Each text is tried twice: as one request is refused in a
+//! run, memory runs out in one of the two at most, and the other gives the whole answer.
 
 use crate::forms::again::{rewritten, shown};
 use crate::forms::enums::{Adjacent, Command};

@@ -1,4 +1,5 @@
-//! Types that are read by hand, with a contract: the steps of any format say what was read, and those of JSON which events of the parser that was.
+//! Types that are read by hand, with a contract: the steps of any format say what was read, and those of JSON which events of the parser
+//! that was.
 
 ghost use Rattle.std.specs.Prelude.{◌≤◌, IfOk};
 ghost use Rattle.serde.specs.Event.{unsigned};

@@ -1,5 +1,6 @@
-//! Reads the settings of a server from the standard input, JSON with comments, and prints them with what was left out. Where something is wrong
-//! with them, it says what and where. The status is 0 for settings, 1 where something is wrong with them, and 2 where reading or printing fails.
+//! Reads the settings of a server from the standard input, JSON with comments, and prints them with what was left out. Where something is
+//! wrong with them, it says what and where. The status is 0 for settings, 1 where something is wrong with them, and 2 where reading or
+//! printing fails.
 #![tactic(auto)]
 
 use facet_json_serde::{Error, from_str_jsonc, to_string_pretty};

@@ -25,7 +25,7 @@ fn is_copied(alloc: Global, event: &ParseEvent<'_>) -> Option<bool> {
     }
 }
 
-/// The same of an event of this kind, which is made before.
+/// Whether an event of this kind is made and copied, or memory runs out.
 fn is_made_and_copied(alloc: Global, kind: Kind) -> Option<bool> {
     match made(alloc, kind) {
         Some(event) => is_copied(alloc, &event),

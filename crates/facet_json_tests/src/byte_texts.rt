@@ -16,7 +16,7 @@ const WHOLE_HEX: Layout = Layout::Format(BytesFormat::Hex(HexBytesOptions {
     tail: 32,
 }));
 
-/// The same, but above six bytes only the first two and the last two.
+/// Bytes as hexadecimal digits, above six bytes only the first two and the last two.
 const SHORT_HEX: Layout = Layout::Format(BytesFormat::Hex(HexBytesOptions {
     truncate_above: Some(6),
     head: 2,

@@ -73,7 +73,7 @@ fn writes_compact(serializer: &mut JsonSerializer<'_>) -> bool {
         && serializer.end_seq().is_ok()
 }
 
-/// The same, and whether it gives their text.
+/// Whether a new serializer does so, and gives the text of the calls.
 fn gives_compact(alloc: Global) -> bool {
     let mut serializer = JsonSerializer::new(alloc);
     let is_taken = writes_compact(&mut serializer);

@@ -93,7 +93,7 @@ fn copies(alloc: Global, owned: &OwnedDecimal, text: &str) -> Option<bool> {
     }
 }
 
-/// The same of a copy.
+/// Whether an owned decimal has the text, and its copy has it too and is equal to one that is made again; or memory runs out.
 fn is_made_again(
     alloc: Global,
     owned: &OwnedDecimal,

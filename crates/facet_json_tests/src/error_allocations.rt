@@ -78,7 +78,7 @@ fn gets_source(alloc: Global) -> Option<bool> {
     }
 }
 
-/// The same of the answer.
+/// Whether the answer is the error with another source; or memory ran out, and it is as it was.
 fn is_given(answer: &Result<JsonError, JsonError>) -> Option<bool> {
     match answer {
         Ok(error) => Some(is_twice_in(error, "[1]")),

@@ -80,7 +80,7 @@ fn gives(alloc: Global, form: Form, way: &Way) -> Option<bool> {
     }
 }
 
-/// The same of its tree.
+/// Whether a tree is given so, or memory runs out.
 fn gives_tree(alloc: Global, form: Form, tree: &Tree, way: &Way) -> Option<bool> {
     match way {
         Way::Bytes => is_text(&vec_by(form, alloc, tree), text_by(form)),
@@ -99,7 +99,7 @@ fn vec_by(form: Form, alloc: Global, tree: &Tree) -> Result<Vec<u8>, JsonSeriali
     }
 }
 
-/// The same as a text.
+/// The text of the tree, by the function that gives what this one writes.
 fn string_by(form: Form, alloc: Global, tree: &Tree) -> Result<String, JsonSerializeError> {
     match form {
         Form::Compact => to_string(alloc, tree),
@@ -156,7 +156,7 @@ fn fills_vector(alloc: Global, form: Form, tree: &Tree, before: &[u8]) -> Option
     }
 }
 
-/// The same of the answer, and of the vector's bytes.
+/// Whether the answer and the vector's bytes tell that; `None` where memory ran out.
 fn is_appended(
     answer: &Result<(), WriteError>,
     bytes: &[u8],

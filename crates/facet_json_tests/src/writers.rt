@@ -168,7 +168,7 @@ fn ends_each_way(alloc: Global, form: Form, tree: &Tree) -> bool {
     fails_where_room_ends(alloc, form, tree)
 }
 
-/// The same of the sample.
+/// Whether the function writes the sample so, each way.
 fn holds(alloc: Global, form: Form) -> bool {
     match sample(alloc) {
         Some(tree) => ends_each_way(alloc, form, &tree),

@@ -13,13 +13,13 @@ pub enum Layout {
     Compact,
     /// A line for each item and member.
     Pretty,
-    /// The same with tabs.
+    /// A line for each item and member, indented by tabs.
     Tabs,
     /// Bytes as lists, which is asked for.
     Lists,
     /// Bytes as hexadecimal digits.
     Hex,
-    /// The same, but above so many only so many of the first and of the last.
+    /// Bytes as hexadecimal digits, above so many only so many of the first and of the last.
     ShortHex(usize, usize, usize),
     /// Bytes in this format.
     Format(BytesFormat),

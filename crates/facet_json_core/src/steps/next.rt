@@ -18,8 +18,8 @@ use facet_format::{DeserializeError, ParseEvent, ParseEventKind, ScalarValue, Sp
 use facet_json_parser::{JsonParser, comes_other, next_wanted};
 use facet_json_reader::{Null, Sought, Wanted};
 
-/// Consumes what is wanted and returns it with its event's span, where a few bytes decide that it comes. Else nothing changes: the next event
-/// may still be what is wanted, and `next_of_value` tells. It allocates nothing.
+/// Consumes what is wanted and returns it with its event's span, where a few bytes decide that it comes. Else nothing changes: the next
+/// event may still be what is wanted, and `next_of_value` tells. It allocates nothing.
 ///
 /// ```text
 /// let taken: Option<(bool, Span)> = take_next(&mut parser)

@@ -52,8 +52,8 @@ struct Folder<'a> {
     folders: Vec<Folder<'a>>,
 }
 
-/// Renamed fields, a default, members in any order, unknown ones passed, and texts that are lent where they have no escape. A missing field is told
-/// by the name that it has in Rust, as serde's derive here does.
+/// Renamed fields, a default, members in any order, unknown ones passed, and texts that are lent where they have no escape. A missing field
+/// is told by the name that it has in Rust, as serde's derive here does.
 static MOONS: [Case<'static>; 6] = [
     (
         r#"{"name":"Io","longNote":"a","orbitDays":1.769}"#,
@@ -81,8 +81,8 @@ static MOONS: [Case<'static>; 6] = [
     ),
 ];
 
-/// An alias, a field that is left out, one that is skipped both ways, and no unknown fields, of which one is told as it is spelled, up to a control character, and cut at 32 bytes. A
-/// duplicate is told by the name in Rust.
+/// An alias, a field that is left out, one that is skipped both ways, and no unknown fields, of which one is told as it is spelled, up to a
+/// control character, and cut at 32 bytes. A duplicate is told by the name in Rust.
 static ACCOUNTS: [Case<'static>; 13] = [
     (r#"{"ID":-7,"note":"x"}"#, r#"{"ID":-7,"note":"x"}"#),
     (r#"{"id":7,"note":null}"#, r#"{"ID":7}"#),
