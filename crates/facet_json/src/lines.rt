@@ -32,6 +32,7 @@ pub struct Line<'a> {
 
 impl<'a> Line<'a> {
     /// Reads the value that the line begins with, as `from_slice`. What follows it on the line is not looked at.
+    /// A type with derives is read from `text` by `facet_json_serde::from_slice`.
     ///
     /// # Errors
     ///
@@ -44,6 +45,7 @@ impl<'a> Line<'a> {
     }
 
     /// Reads the value of the line, which is one text of RFC 8259, as `from_slice_strict`: nothing follows it on the line.
+    /// A type with derives is read from `text` by `facet_json_serde::from_slice_strict`.
     ///
     /// # Errors
     ///

@@ -11,7 +11,8 @@ use facet_json_parser::JsonParser;
 use std::alloc::Global;
 
 /// Reads the value of the document that the bytes begin with (RFC 8259, sections 2 to 7, with lenient readings such as a trailing comma),
-/// and borrows nothing of the input. What follows the document is not looked at.
+/// and borrows nothing of the input. What follows the document is not looked at. A type with derives is read by
+/// `facet_json_serde::from_slice`, which may borrow.
 ///
 /// ```text
 /// from_slice::<u8>(alloc, b" 7 ")        Ok: 7

@@ -11,7 +11,8 @@ use serde::{Deserialize, Deserializer, Format};
 use std::alloc::Global;
 
 /// Reads the value of the document that the bytes begin with (RFC 8259, sections 2 to 7, with lenient readings such as a trailing comma).
-/// It may borrow of the input. What follows the document is not looked at.
+/// It may borrow of the input. What follows the document is not looked at. A type with `Facet` is read by `facet_json::from_slice`, which
+/// borrows nothing.
 ///
 /// ```text
 /// from_slice::<u8>(alloc, b" 7 ")        Ok: 7
