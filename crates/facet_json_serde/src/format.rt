@@ -10,7 +10,7 @@ use crate::found::kind_of;
 use crate::json::{Ahead, Json};
 use crate::one_event::{FieldsStart, OfEvent, Unread, finite_f32, finite_f64};
 use facet_format::{Decimal, ParseEvent, ParseEventKind, Span};
-use facet_json_reader::{ListEnd, ListStart, Member, ObjectStart, Sought, Whole};
+use facet_json_reader::{ListEnd, ListStart, ObjectStart, Sought, Whole};
 use serde::{Format, Kind, Name};
 use std::alloc::Global;
 use std::borrow::CowStr;
@@ -320,10 +320,9 @@ impl<'de> Format for Json<'de> {
 
     #[inline(always)]
     fn next_key(&mut self, _input: &[u8], names: &[Name<'_>]) -> Result<Option<usize>, ReadFault> {
-        match self.member() {
-            Some(Member::Key(name)) => Ok(Some(serde::find(names, name))),
-            Some(Member::End) => Ok(None),
-            None => Ok(self.next_key_out_of_line(names)?),
+        match self.key()? {
+            Some(key) => Ok(Some(serde::find(names, key.as_str()))),
+            None => Ok(None),
         }
     }
 

@@ -7,7 +7,7 @@ ghost use Rattle.facet_json_grammar.specs.Move.{with_kept};
 ghost use Rattle.facet_json_grammar.specs.Next.{PassesNext};
 ghost use Rattle.facet_json_reader.specs.Inner.Soughts.{event_of_member};
 ghost use Rattle.serde.specs.Event.{nothing, map_ends};
-ghost use Rattle.facet_json_serde.specs.Ahead.{JsonStands, Picks, Stays, StepReads, StepPasses, StepGives, HoldsText, HoldsKey};
+ghost use Rattle.facet_json_serde.specs.Ahead.{JsonStands, Stays, StepReads, StepPasses, StepGives, HoldsText, HoldsKey};
 
 use crate::error::Error;
 use crate::fault::{ReadFault, ReadFaultKind, Sort};
@@ -15,7 +15,6 @@ use crate::found::{found_in, is_quoted};
 use facet_format::{FormatParser, ParseEvent, ParseEventKind, SavePoint, ScalarValue, Span};
 use facet_json_parser::{JsonParser, comes_other, next_wanted};
 use facet_json_reader::{Member, Null, Sought, Wanted, Whole};
-use serde::Name;
 use std::alloc::Global;
 use std::borrow::CowStr;
 
@@ -479,7 +478,7 @@ impl<'de> Json<'de> {
 
     /// A key without an escape, or the end of the map, where a few bytes decide that one of them comes. Else nothing changes.
     #[inline(always)]
-    pub(crate) fn member(&mut self) -> Option<Member<'de>>
+    fn member(&mut self) -> Option<Member<'de>>
         ensures { MatchOption result (self.new ≡ self.old)
             (λ m. StepPasses self.old (record { kind = event_of_member m; span = span_of self.new.last }) self.new
             × (self.new.ahead ≡ Ahead.Nothing)) }
@@ -487,19 +486,29 @@ impl<'de> Json<'de> {
         self.wanted()
     }
 
-    /// The first of the names that a key stands for, or the end of the map, by its event.
+    /// A key, or `None` at the end of the map, which it takes.
+    #[inline(always)]
+    pub(crate) fn key(&mut self) -> Result<Option<CowStr<'de>>, ReadFault>
+        ensures { IfOk result (λ o. MatchOption o (StepGives self.old [] map_ends self.new)
+            (λ key. StepReads self.old (λ given. HoldsKey given.kind (cow_str_bytes key)) self.new)) }
+    {
+        match self.member() {
+            Some(Member::Key(name)) => Ok(Some(CowStr::Borrowed(name))),
+            Some(Member::End) => Ok(None),
+            None => Ok(self.key_out_of_line()?),
+        }
+    }
+
+    /// A key, or the end of the map, by its event.
     #[cold]
     #[inline(never)]
-    pub(crate) fn next_key_out_of_line(
-        &mut self,
-        names: &[Name<'_>],
-    ) -> Result<Option<usize>, ReadFault>
+    fn key_out_of_line(&mut self) -> Result<Option<CowStr<'de>>, ReadFault>
         ensures { IfOk result (λ o. MatchOption o (StepGives self.old [] map_ends self.new)
-            (λ at. Picks self.old [] true names.now at self.new)) }
+            (λ key. StepReads self.old (λ given. HoldsKey given.kind (cow_str_bytes key)) self.new)) }
     {
         let ParseEvent { kind, span } = self.take()?.event();
         match kind {
-            ParseEventKind::FieldKey(key) => Ok(Some(serde::find(names, key.name.as_str()))),
+            ParseEventKind::FieldKey(key) => Ok(Some(key.name)),
             ParseEventKind::StructEnd => Ok(None),
             kind => Err(self.unwanted(Sort::Key, Came(ParseEvent { kind, span }))),
         }
