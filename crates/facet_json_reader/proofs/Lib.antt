@@ -18,6 +18,7 @@ pub mod SameEnd
 pub mod ScannedTokens
 pub mod ShortNumbers
 pub mod SortsOfTokens
+pub mod StopLanes
 pub mod StoppingTokens
 pub mod TextRuns
 pub mod TokenMeanings

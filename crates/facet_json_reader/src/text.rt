@@ -1,4 +1,4 @@
-//! Texts without an escape, from their bytes, thirty-two at a time.
+//! Texts without an escape, from their bytes: sixteen at once, then thirty-two at a time.
 
 ghost use Rattle.std.specs.Prelude.{◌≡◌, ◌<◌, ◌+◌, ℕ, Bool, not, length, Some, slice_get, slice_range, IfSome, IsUtf8, ◌≤◌, drop};
 ghost use Rattle.std.specs.Prelude.{map};
@@ -143,6 +143,10 @@ trait Ends {
     fn stops(window: u8x32, least: u8) -> u64
         ensures { result ≡ mask_l (map (ends least) window) };
 
+    /// A bit for each of sixteen bytes that is one of them.
+    fn first_stops(window: u8x16, least: u8) -> u64
+        ensures { result ≡ mask_l (map (ends least) window) };
+
     /// Whether a byte is one of them.
     fn stops_at(byte: u8, least: u8) -> bool
         ensures { result ≡ ends least byte };
@@ -158,6 +162,12 @@ impl Ends for Unescaped {
     fn stops(window: u8x32, least: u8) -> u64 {
         let ends = window.simd_eq(u8x32::splat(b'"')) | window.simd_eq(u8x32::splat(b'\\'));
         (ends | window.simd_lt(u8x32::splat(least))).to_bitmask()
+    }
+
+    #[inline(always)]
+    fn first_stops(window: u8x16, least: u8) -> u64 {
+        let ends = window.simd_eq(u8x16::splat(b'"')) | window.simd_eq(u8x16::splat(b'\\'));
+        (ends | window.simd_lt(u8x16::splat(least))).to_bitmask()
     }
 
     #[inline(always)]
@@ -180,14 +190,54 @@ impl Ends for Ordinary {
     }
 
     #[inline(always)]
+    fn first_stops(window: u8x16, least: u8) -> u64 {
+        let ends = window.simd_eq(u8x16::splat(b'"')) | window.simd_eq(u8x16::splat(b'\\'));
+        let others = window.simd_ge(u8x16::splat(0x80)) | window.simd_lt(u8x16::splat(least));
+        (ends | others).to_bitmask()
+    }
+
+    #[inline(always)]
     fn stops_at(byte: u8, least: u8) -> bool {
         byte == b'"' || byte == b'\\' || byte < least || byte >= 0x80
     }
 }
 
-/// The offset of the first of these bytes from `from` on, or the length.
+/// The offset of the first of these bytes from `from` on, or the length. Most texts are short, so sixteen bytes are looked at first.
 #[inline(always)]
 fn run_end<E: Ends>(buffer: &[u8], from: usize, least: u8) -> usize
+    requires { from ≤ length buffer.now }
+    ensures value { result ≡ from + prefix_len (λ b. not (E.ends least b)) (drop from buffer.now) }
+    ensures ahead { from ≤ result }
+    ensures within { result ≤ length buffer.now }
+{
+    if buffer.len() - from < 16 {
+        return run_end_bytewise::<E>(buffer, from, least);
+    }
+    let found = E::first_stops(u8x16::from_slice(&buffer[from..]), least);
+    if found != 0 {
+        return from + found.trailing_zeros() as usize;
+    }
+    run_end_out_of_line::<E>(buffer, from + 16, least)
+}
+
+/// The offset of the first of these bytes from `from` on, or the length, by a call. Where the bound is 0, no byte is compared with it.
+#[inline(never)]
+fn run_end_out_of_line<E: Ends>(buffer: &[u8], from: usize, least: u8) -> usize
+    requires { from ≤ length buffer.now }
+    ensures value { result ≡ from + prefix_len (λ b. not (E.ends least b)) (drop from buffer.now) }
+    ensures ahead { from ≤ result }
+    ensures within { result ≤ length buffer.now }
+{
+    if least == 0 {
+        run_end_wide::<E>(buffer, from, 0)
+    } else {
+        run_end_wide::<E>(buffer, from, least)
+    }
+}
+
+/// The offset of the first of these bytes from `from` on, or the length, sought thirty-two bytes at a time.
+#[inline(always)]
+fn run_end_wide<E: Ends>(buffer: &[u8], from: usize, least: u8) -> usize
     requires { from ≤ length buffer.now }
     ensures value { result ≡ from + prefix_len (λ b. not (E.ends least b)) (drop from buffer.now) }
     ensures ahead { from ≤ result }

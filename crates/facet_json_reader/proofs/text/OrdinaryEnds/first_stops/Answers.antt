@@ -1,0 +1,13 @@
+-- Two comparisons with one byte each and two with bounds.
+use Rattle.std.proofs.Common.{arith}
+use Rattle.std.proofs.lemmas.Simd.{zip2_splat, zip2_splat_left}
+use Rattle.facet_format.proofs.Lanes.{equal, below, at_most}
+use Rattle.facet_json_reader.proofs.StopLanes.{ordinary-masked}
+use Rattle.facet_json_reader.proofs.text.OrdinaryEnds.first_stops.Goals as goal
+
+pub returns : goal.returns
+returns c =
+    let v = c.args.window in
+    let long = c.fits-window.0 in
+    ordinary-masked v c.args.least (omega arith) (zip2_splat equal v 16 _ long) (zip2_splat equal v 16 _ long)
+    (zip2_splat below v 16 _ long) (zip2_splat_left at_most _ 16 v long)
