@@ -1,5 +1,5 @@
 -- Events that are passed one after another, up to the end or a refusal.
-use Rattle.std.proofs.Common.{◌≡◌, ◌⊎◌, inl, inr, Bool, true, false, List, [], ◌∷◌, ◌++◌, None, Some, refl, sym, ap, ◌∙◌, subst}
+use Rattle.std.proofs.Common.{◌≡◌, ◌≤◌, ◌⊎◌, inl, inr, Bool, true, false, List, [], ◌∷◌, ◌++◌, None, Some, refl, sym, ap, ◌∙◌, subst, arith}
 use Rattle.std.specs.Prelude.{Ok, Err}
 use Rattle.facet_format.specs.Complaint.{Refusal}
 use Rattle.facet_format.specs.Event.{Event, Passed}
@@ -10,11 +10,12 @@ use Rattle.facet_json_token.specs.Tokens.{Tokens}
 use Rattle.facet_json_grammar.specs.Place.{Place}
 use Rattle.facet_json_grammar.specs.Reader.{Reader}
 use Rattle.facet_json_grammar.specs.Refusal.{IsStuck}
-use Rattle.facet_json_grammar.specs.Now.{Now, RefusedAt, on_input, future_of, current_span_of}
+use Rattle.facet_json_grammar.specs.Now.{Now, RefusedAt, on_input, future_of, current_span_of, ahead}
 use Rattle.facet_json_grammar.specs.Move.{Moves}
 use Rattle.facet_json_grammar.proofs.MoveLaws.{with_cursor, StepOf, by_step}
 use Rattle.facet_json_grammar.proofs.MovesNext.{event-comes, end-comes, next-passes, next-over}
 use Rattle.facet_json_grammar.proofs.WalkComes.{events_before-append}
+use Rattle.facet_json_parser.specs.Inner.Wanted.{PassesMore, none_passed, one_passed}
 use Rattle.facet_json_core.specs.Reading.{LacksMemory}
 use Rattle.facet_json_document.specs.Formatted.{GetsStuck}
 use Rattle.facet_json_document.specs.Inner.Checking.{last_after, PassesSome, PassesUp, Told}
@@ -98,6 +99,29 @@ some-more old now new e some move =
       ends = one.ends ∙ sym (last-append old.cursor.spot.place.last some.events one.given);
       unpeeked = one.unpeeked;
     }
+
+-- None, and then those that are passed one after another.
+no-events : (now : Now) → now.cursor.spot.peeked ≡ false → PassesSome now now
+no-events now unpeeked = record { events = []; comes = refl; ends = refl; unpeeked = unpeeked }
+
+pub many-more : (old now new : Now) → PassesSome old now → PassesMore now new → PassesSome old new
+many-more old now _ some none_passed = some
+many-more old now new some (one_passed r _ e more one) = some-more old r new e (many-more old now r some more) one.moves
+
+pub many-events : (old new : Now) → old.cursor.spot.peeked ≡ false → PassesMore old new → PassesSome old new
+many-events old new unpeeked more = many-more old old new (no-events old unpeeked) more
+
+pub many-buffer : (old new : Now) → PassesMore old new → new.buffer ≡ old.buffer
+many-buffer old _ none_passed = refl
+many-buffer old new (one_passed r _ e more one) = one.moves.input.buffer ∙ many-buffer old r more
+
+pub many-free : (old new : Now) → PassesMore old new → old.cursor.refusal ≡ None → new.cursor.refusal ≡ None
+many-free old _ none_passed free = free
+many-free old new (one_passed r _ e more one) free = one.next.free
+
+pub many-lower : (old new : Now) → PassesMore old new → ahead new ≤ ahead old
+many-lower old _ none_passed = omega arith
+many-lower old new (one_passed r _ e more one) = omega (arith, one.shorter, many-lower old r more)
 
 -- Then the end.
 pub up-to_end : (old now new : Now) (last : Span) → PassesSome old now → Moves now next (event (Ok None)) new → last ≡ current_span_of new → PassesUp old last

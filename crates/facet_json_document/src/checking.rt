@@ -19,7 +19,7 @@ ghost use Rattle.facet_json_core.specs.Reading.{LacksMemory};
 
 use facet_format::{DeserializeError, FormatParser, ParseError, Span};
 use facet_json_core::last_span;
-use facet_json_parser::JsonParser;
+use facet_json_parser::{JsonParser, pass_in_sight};
 use facet_json_reader::{Contexts, Language, Place, Reader, Stage};
 use facet_json_token::Mode;
 use facet_json_token::cutting::skip_gap;
@@ -137,7 +137,10 @@ fn pass_up<'t>(parser: &mut JsonParser<'_>) -> Result<Span, DeserializeError<'t>
     ensures inside { IfOk result (λ last. stop (span_of last) ≤ length parser.old.buffer) }
     ensures within { IfErr result (λ e. RefusalWithin parser.old.buffer (refusal_of e)) }
 {
-    while passes_event(parser)? {}
+    pass_in_sight(parser);
+    while passes_event(parser)? {
+        pass_in_sight(parser);
+    }
     Ok(last_span(parser))
 }
 

@@ -19,7 +19,7 @@ use facet_json_serializer::{JsonSerializeError, JsonSerializer};
 use std::alloc::Global;
 
 /// A type that has its value from a scalar, which is one event, and is written as one. Nothing of the input is borrowed.
-pub(crate) trait Leaf: Sized + Drop {
+pub(crate) trait FromScalar: Sized + Drop {
     ghost use Rattle.std.specs.Prelude.{Option};
     ghost use Rattle.facet_format.specs.Complaint.{Refusal};
     ghost use Rattle.facet_format.specs.Event.{Event};
@@ -89,7 +89,7 @@ pub(crate) trait Leaf: Sized + Drop {
 /// <u8 as Facet>::read_owned(alloc, &mut JsonParser::new(alloc, b"256"))        NumberOutOfRange
 /// <u8 as Facet>::read_owned(alloc, &mut JsonParser::new(alloc, b"null"))       TypeMismatch
 /// ```
-impl<'de, T: Leaf> Facet<'de> for T {
+impl<'de, T: FromScalar> Facet<'de> for T {
     ghost use Rattle.std.specs.Prelude.{true};
     ghost use Rattle.facet_json_core.specs.Meaning.Types.{scalar};
     ghost use Rattle.facet_json_core.proofs.Meaning.TypeLaws.{scalar-laws};
@@ -131,7 +131,7 @@ impl<'de, T: Leaf> Facet<'de> for T {
 ///
 /// No event comes, or it is no value of the type.
 #[inline(never)]
-fn take_out_of_line<'t, T: Leaf>(
+fn take_out_of_line<'t, T: FromScalar>(
     alloc: Global,
     parser: &mut JsonParser<'_>,
 ) -> Result<T, DeserializeError<'t>>

@@ -8,7 +8,7 @@ ghost use Rattle.facet_json_core.specs.Calls.{refusal_of, ahead, RefusalWithin, 
 ghost use Rattle.facet_json_core.specs.Calls.{HasDocument, EndsStrictly};
 
 use crate::facet::Facet;
-use crate::leaves::Leaf;
+use crate::leaves::FromScalar;
 use facet_format::{
     DeserializeError, DeserializeErrorKind, FormatSerializer, ParseEvent, ParseEventKind,
     ScalarValue, Span,
@@ -20,7 +20,7 @@ use facet_json_serializer::{JsonSerializeError, JsonSerializer};
 use std::alloc::Global;
 use std::borrow::CowStr;
 
-impl Leaf for String {
+impl FromScalar for String {
     ghost use Rattle.std.specs.Prelude.{◌≡◌, ◌⊎◌, ℕ, List, true, codes, string_bytes};
     ghost use Rattle.std.specs.Str.{is_utf8};
     ghost use Rattle.facet_format.specs.Complaint.{no_memory};

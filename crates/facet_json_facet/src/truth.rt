@@ -1,13 +1,13 @@
 //! Truth values: `true` and `false`.
 
-use crate::leaves::Leaf;
+use crate::leaves::FromScalar;
 use facet_format::{DeserializeError, ParseEvent, ParseEventKind, ScalarValue};
 use facet_json_core::mismatch;
 use facet_json_core::steps::take_next;
 use facet_json_parser::JsonParser;
 use std::alloc::Global;
 
-impl Leaf for bool {
+impl FromScalar for bool {
     ghost use Rattle.std.specs.Prelude.{◌≡◌, Bool, codes};
     ghost use Rattle.std.proofs.Common.{inr};
     ghost use Rattle.facet_json_grammar.specs.Tree.{bool as bool_tree};

@@ -7,7 +7,7 @@ ghost use Rattle.facet_json_core.specs.Refusing.{mismatch_of};
 ghost use Rattle.facet_json_serializer.specs.Serializer.{scalar_tree};
 ghost use Rattle.facet_json_core.specs.Meaning.Readings.{taken, whole_of};
 
-use crate::leaves::Leaf;
+use crate::leaves::FromScalar;
 use facet_format::{
     DeserializeError, DeserializeErrorKind, ParseEvent, ParseEventKind, ScalarValue, Span,
 };
@@ -40,7 +40,7 @@ pub(crate) trait Number: TryFrom<i128, Error = TryFromIntError> + Drop {
     ghost laws: { NumberLaws number Self.try_from_gives };
 }
 
-impl<T: Number> Leaf for T {
+impl<T: Number> FromScalar for T {
     ghost use Rattle.std.specs.Prelude.{◌≡◌, ◌⊎◌, refl};
     ghost use Rattle.std.proofs.Common.{inr};
     ghost use Rattle.std.specs.Option.{option_and_then};

@@ -3,14 +3,14 @@
 ghost use Rattle.std.specs.Prelude.{◌≡◌};
 ghost use Rattle.facet_json_core.specs.Meaning.Readings.{unsigned_text, signed_text};
 
-use crate::leaves::Leaf;
+use crate::leaves::FromScalar;
 use crate::whole::out_of_range;
 use facet_format::{DeserializeError, ParseEvent, ParseEventKind, ScalarValue};
 use facet_json_core::mismatch;
 use facet_json_parser::JsonParser;
 use std::alloc::Global;
 
-impl Leaf for u128 {
+impl FromScalar for u128 {
     ghost use Rattle.std.specs.Prelude.{◌≡◌, ◌⊎◌, ◌<◌, ◌^◌, ℕ, codes, refl};
     ghost use Rattle.std.proofs.Common.{inr};
     ghost use Rattle.facet_format.specs.Complaint.{number_out_of_range, refusal_at};
@@ -65,7 +65,7 @@ impl Leaf for u128 {
     ghost reads_back = { u128-reads_back };
 }
 
-impl Leaf for i128 {
+impl FromScalar for i128 {
     ghost use Rattle.std.specs.Prelude.{◌≡◌, ℤ, codes};
     ghost use Rattle.std.proofs.Common.{inr};
     ghost use Rattle.facet_json_grammar.specs.Tree.{i128 as i128_tree};

@@ -7,7 +7,7 @@ const WORDS: &str = "a word other than true, false and null stands in double quo
 
 /// Where an error stands.
 #[derive(Clone, Copy)]
-pub struct Place<'a> {
+pub struct Surroundings<'a> {
     /// What stands before it.
     before: &'a [u8],
     /// The bytes that are meant.
@@ -18,11 +18,11 @@ pub struct Place<'a> {
     language: Language,
 }
 
-impl<'a> Place<'a> {
+impl<'a> Surroundings<'a> {
     /// The place of these bytes in a source.
-    pub fn new(source: &'a [u8], span: Span, language: Language) -> Place<'a> {
+    pub fn new(source: &'a [u8], span: Span, language: Language) -> Surroundings<'a> {
         let (before, rest) = source.split_at(span.offset.min(source.len()));
-        Place {
+        Surroundings {
             before,
             meant: &rest[..span.len.min(rest.len())],
             rest,
@@ -62,7 +62,7 @@ impl<'a> Place<'a> {
 /// advice(&DeserializeErrorKind::UnexpectedToken { got: "String", expected: "',' or '}'" }, place)
 ///     "a comma is missing before this key"
 /// ```
-pub fn advice(kind: &DeserializeErrorKind<'_>, place: Place<'_>) -> &'static str {
+pub fn advice(kind: &DeserializeErrorKind<'_>, place: Surroundings<'_>) -> &'static str {
     match kind {
         DeserializeErrorKind::UnexpectedToken { got, expected } => on_token(got, expected, place),
         DeserializeErrorKind::UnexpectedEof { expected } => found(
@@ -151,7 +151,7 @@ fn found(rows: &[(&str, &'static str)], text: &str, or: &'static str) -> &'stati
 }
 
 /// Where a token stands with which nothing goes on.
-fn on_token(got: &str, expected: &str, place: Place<'_>) -> &'static str {
+fn on_token(got: &str, expected: &str, place: Surroundings<'_>) -> &'static str {
     match expected {
         "',' or '}'" => found(
             &AFTER_MEMBER,
@@ -168,7 +168,7 @@ fn on_token(got: &str, expected: &str, place: Place<'_>) -> &'static str {
 }
 
 /// Where a value may stand.
-fn at_value(got: &str, place: Place<'_>) -> &'static str {
+fn at_value(got: &str, place: Surroundings<'_>) -> &'static str {
     match got {
         "Comma" => "remove this comma, or write a value before it",
         "Colon" => "remove this colon",
@@ -189,7 +189,7 @@ fn on_bytes(meant: &[u8]) -> &'static str {
 }
 
 /// Where no token begins, or a string or a number is none.
-fn on_character(character: char, place: Place<'_>) -> &'static str {
+fn on_character(character: char, place: Surroundings<'_>) -> &'static str {
     match place.meant {
         [_, _, ..] if place.before.ends_with(b"\\u") => "four hexadecimal digits stand after \\u",
         [b'-'] => "a digit is missing after the minus",
@@ -229,7 +229,7 @@ fn are_digits(bytes: &[u8]) -> bool {
 }
 
 /// Where a token can't begin with this character.
-fn on_stray(character: char, place: Place<'_>) -> &'static str {
+fn on_stray(character: char, place: Surroundings<'_>) -> &'static str {
     match character {
         '\0'..='\x1F' => "remove this control character",
         '\'' | '`' => "strings and keys stand in double quotes",
@@ -250,7 +250,7 @@ fn is_quote(text: &[u8]) -> bool {
 }
 
 /// Where a comment may be meant.
-fn on_comment(place: Place<'_>) -> &'static str {
+fn on_comment(place: Surroundings<'_>) -> &'static str {
     match place.rest {
         [b'/', b'/' | b'*', ..] => "comments are read with --jsonc",
         _ if matches!(place.language, Language::Jsonc) => "a comment begins with // or /*",

@@ -15,14 +15,14 @@ use std::alloc::{AllocError, Global};
 
 /// Why a source is not one document.
 #[derive(Clone, Copy)]
-pub struct Fault {
+pub struct Finding {
     /// What is wrong, and where.
     pub error: DeserializeError<'static>,
     /// The innermost bracket that is open there.
     pub opened: Option<Span>,
 }
 
-impl Fault {
+impl Finding {
     /// Where it is told: what is missing at the end of the source is told behind the last of it that is no white space.
     pub fn told_at(self, source: &[u8]) -> Span {
         match self.error.span {
@@ -62,13 +62,13 @@ impl Fault {
 /// # Errors
 ///
 /// As `check_whole`, and where RFC 8259 alone is read as `check_strict`.
-pub fn check(alloc: Global, language: Language, source: &[u8]) -> Result<(), Fault>
+pub fn check(alloc: Global, language: Language, source: &[u8]) -> Result<(), Finding>
     ensures document { OnOk result (IsWholeSource (language_of language) source.now) }
     ensures only { IsWholeSource (language_of language) source.now → IfErr result (λ fault. LacksMemory (refusal_of fault.error)) }
 {
     match checked(alloc, language, source) {
         Ok(()) => Ok(()),
-        Err(error) => Err(Fault {
+        Err(error) => Err(Finding {
             error,
             opened: opened(alloc, language, source),
         }),

@@ -1,8 +1,8 @@
 //! Checks files, one after another, and reports what is wrong with them.
 
-use crate::advice::{Place, advice};
+use crate::advice::{Surroundings, advice};
 use crate::arguments::{Layout, Options};
-use crate::check::{Fault, check, formatted};
+use crate::check::{Finding, check, formatted};
 use crate::files;
 use crate::repeats::{Repeat, key_text, repeats};
 use crate::report::{Aside, Colours, Report, write_report};
@@ -207,7 +207,7 @@ impl Lint<'_> {
         error: DeserializeError<'static>,
         output: &mut W,
     ) -> io::Result<Verdict> {
-        let fault = Fault {
+        let fault = Finding {
             error,
             opened: None,
         };
@@ -218,7 +218,7 @@ impl Lint<'_> {
     fn tell_fault<W: Write>(
         self,
         source: Source<'_>,
-        fault: Fault,
+        fault: Finding,
         output: &mut W,
     ) -> io::Result<Verdict> {
         if matches!(fault.error.kind, DeserializeErrorKind::OutOfMemory) {
@@ -232,7 +232,7 @@ impl Lint<'_> {
             return Ok(Verdict::Reported);
         }
         let span = fault.told_at(source.text);
-        let place = Place::new(source.text, span, self.options.language);
+        let place = Surroundings::new(source.text, span, self.options.language);
         let report = Report {
             name: source.shown,
             source: source.text,

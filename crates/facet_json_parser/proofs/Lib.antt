@@ -2,6 +2,7 @@ pub mod AnswersAreMoves
 pub mod Bits
 pub mod BlockBits
 pub mod EventsInBatch
+pub mod EventsInSight
 pub mod FirstParts
 pub mod KeptSpots
 pub mod MarkSteps

@@ -12,5 +12,5 @@ mod points;
 mod quiet;
 mod run;
 
-pub use parser::{JsonParser, comes_other, next_wanted};
+pub use parser::{JsonParser, comes_other, next_wanted, pass_in_sight};
 pub use run::{pass_container, pass_run};

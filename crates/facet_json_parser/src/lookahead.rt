@@ -19,7 +19,7 @@ ghost use Rattle.facet_json_parser.specs.PartViews.{after_part};
 ghost use Rattle.facet_json_parser.specs.Lookahead.{lookahead_at, lookahead_with, first_lookahead, reader_before, spot_of, HoldsWhatComes};
 ghost use Rattle.facet_json_parser.specs.Lookahead.{TakesHeld, Lends, Withholds};
 ghost use Rattle.facet_json_parser.specs.Views.{lookahead_of};
-ghost use Rattle.facet_json_parser.specs.Inner.Wanted.{NeverGives};
+ghost use Rattle.facet_json_parser.specs.Inner.Wanted.{NeverGives, ReaderPasses};
 ghost use Rattle.facet_json_reader.specs.Inner.Soughts.{event_of_sought};
 
 use crate::part::{Part, find, scalar_in_sight};
@@ -120,6 +120,19 @@ impl<'de> Lookahead<'de> {
             return None;
         }
         W::pass(&mut self.reader, input, language, trust)
+    }
+
+    /// Consumes events as long as a few bytes decide each of them, where none is held.
+    #[inline(always)]
+    pub fn pass_in_sight(&mut self, input: &[u8], language: Language)
+        requires sound { IsSound input.now (language_of language) (lookahead_of self.old) }
+        ensures sound { IsSound input.now (language_of language) (lookahead_of self.new) }
+        ensures passes { ReaderPasses input.now (language_of language) self.old self.new }
+    {
+        if self.held.is_some() {
+            return;
+        }
+        self.reader.pass_in_sight(input, language);
     }
 
     /// Whether something else comes next, where its first byte tells. Where it does not tell, the answer is no.

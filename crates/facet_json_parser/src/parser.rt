@@ -17,7 +17,7 @@ ghost use Rattle.facet_json_reader.specs.PlaceViews.{language_of, refused_of};
 ghost use Rattle.facet_json_grammar.specs.Now.{fresh, fresh_in, current_span_of, ahead, future_of, SameInput, GoesOn, StandsAt};
 ghost use Rattle.facet_json_grammar.specs.Move.{Moves, MovesBy, with_kept, without_point};
 ghost use Rattle.facet_json_grammar.specs.Next.{PassesNext, ShowsNext, PassesAll, IsOver};
-ghost use Rattle.facet_json_parser.specs.Inner.Wanted.{PassesWanted, NeverGives};
+ghost use Rattle.facet_json_parser.specs.Inner.Wanted.{NeverGives, PassesMore, PassesWanted};
 ghost use Rattle.facet_json_reader.specs.Inner.Soughts.{event_of_sought};
 ghost use Rattle.facet_json_grammar.specs.UnreadLaws.{RefusalWithin};
 ghost use Rattle.facet_json_grammar.specs.Within.{NowWithin, AnswerWithin};
@@ -234,6 +234,17 @@ impl<'de> JsonParser<'de> {
         self.lookahead.step(self.input, self.language, self.trust)
     }
 
+    /// Consumes events as long as a few bytes decide each of them.
+    #[inline(always)]
+    fn pass_events(&mut self)
+        ensures { PassesMore self.old self.new }
+    {
+        if self.refusal.is_some() {
+            return;
+        }
+        self.lookahead.pass_in_sight(self.input, self.language);
+    }
+
     /// Whether something else comes next, as its first byte tells.
     #[inline(always)]
     fn finds_other(&self, sought: Sought) -> bool
@@ -321,6 +332,14 @@ pub fn next_wanted<'de, W: Wanted<'de>>(parser: &mut JsonParser<'de>) -> Option<
         (λ r. PassesWanted parser.old (record { kind = W.kind r.0; span = span_of r.1 }) parser.new) }
 {
     parser.step()
+}
+
+/// Consumes events as long as a few bytes decide each of them, and tells none of them. It does not allocate, but for open containers.
+#[inline(always)]
+pub fn pass_in_sight(parser: &mut JsonParser<'_>)
+    ensures { PassesMore parser.old parser.new }
+{
+    parser.pass_events();
 }
 
 /// Whether something else comes next, as its first byte tells. Where it does not tell, the answer is no. Nothing is read.

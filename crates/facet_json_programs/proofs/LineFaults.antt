@@ -4,10 +4,10 @@ use Rattle.facet_json.specs.Complaint as complaint
 use Rattle.facet_json.specs.Complaint.{Complaint, out_of_memory}
 use Rattle.facet_json.specs.StrictDocument.{IsStrict}
 use Rattle.facet_json_programs.specs.Faults.{or_memory}
-use Rattle.facet_json_programs.specs.declared.fault.Fault.{Fault}
-use Rattle.facet_json_programs.specs.declared.fault.Fault.TheVariants.{Parse, Memory}
+use Rattle.facet_json_programs.specs.declared.fault.RpcFault.{RpcFault}
+use Rattle.facet_json_programs.specs.declared.fault.RpcFault.TheVariants.{Parse, Memory}
 
-or_memory-is : (c : Complaint) (f : Fault) → (or_memory c f ≡ Memory) ⊎ (or_memory c f ≡ f)
+or_memory-is : (c : Complaint) (f : RpcFault) → (or_memory c f ≡ Memory) ⊎ (or_memory c f ≡ f)
 or_memory-is (complaint.unexpected_char character expected) f = inr refl
 or_memory-is (complaint.unexpected_eof expected) f = inr refl
 or_memory-is (complaint.unexpected_token got expected) f = inr refl
@@ -19,7 +19,7 @@ or_memory-is (complaint.missing_field field) f = inr refl
 or_memory-is complaint.out_of_memory f = inl refl
 or_memory-is complaint.save_limit f = inr refl
 
-pub line-fault : (input : List ℕ) (c : Complaint) (fault : Fault) → (IsStrict input → c ≡ out_of_memory) → fault ≡ or_memory c Parse →
+pub line-fault : (input : List ℕ) (c : Complaint) (fault : RpcFault) → (IsStrict input → c ≡ out_of_memory) → fault ≡ or_memory c Parse →
     (fault ≡ Memory) ⊎ ((fault ≡ Parse) × (IsStrict input → ⊥))
 line-fault input c fault only is =
     elim (or_memory-is c Parse) [

@@ -11,7 +11,7 @@ pub const LONGEST_LINE: usize = 1_048_576;
 
 /// What is wanted of a record: that the first member of this name is this text, or a value that is written so.
 #[derive(Clone, Copy)]
-pub struct Wanted<'a> {
+pub struct Criterion<'a> {
     pub name: &'a str,
     pub value: &'a str,
 }
@@ -30,7 +30,7 @@ fn is_value<'t>(alloc: Global, json: &str, value: &str) -> Result<bool, Deserial
 pub fn is_wanted<'t>(
     alloc: Global,
     record: &[u8],
-    wanted: Wanted<'_>,
+    wanted: Criterion<'_>,
 ) -> Result<bool, DeserializeError<'t>> {
     match member(alloc, record, wanted.name)? {
         Some(json) => is_value(alloc, json, wanted.value),
@@ -64,7 +64,7 @@ fn pass<W: Write, E: Write>(
     alloc: Global,
     name: &str,
     line: Line<'_>,
-    wanted: Wanted<'_>,
+    wanted: Criterion<'_>,
     output: &mut W,
     errors: &mut E,
 ) -> io::Result<bool> {
@@ -84,7 +84,7 @@ pub fn filter<R: BufRead + Drop, W: Write, E: Write>(
     alloc: Global,
     name: &str,
     log: R,
-    wanted: Wanted<'_>,
+    wanted: Criterion<'_>,
     output: &mut W,
     errors: &mut E,
 ) -> io::Result<bool> {

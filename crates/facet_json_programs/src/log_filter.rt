@@ -1,14 +1,14 @@
 //! Copies the records of logs that have a member of a value, a record a line: `log_filter --where NAME=VALUE [FILE..]`. Without a file it
 //! reads the standard input.
 
-use crate::filter::{Wanted, filter};
+use crate::filter::{Criterion, filter};
 use std::io::{BufReader, BufWriter, Write};
 use std::{fs, io};
 
 /// Filters the standard input. It returns whether each line is a record as far as it was read.
 fn filter_input<W: Write>(
     rt: &HostRuntime,
-    wanted: Wanted<'_>,
+    wanted: Criterion<'_>,
     output: &mut W,
 ) -> io::Result<bool> {
     let input = BufReader::new(rt.alloc(), rt.stdin())?;
@@ -27,7 +27,7 @@ fn filter_input<W: Write>(
 fn filter_file<W: Write>(
     rt: &HostRuntime,
     file: &str,
-    wanted: Wanted<'_>,
+    wanted: Criterion<'_>,
     output: &mut W,
 ) -> io::Result<Option<bool>> {
     let log = match fs::open(rt, file) {
@@ -46,7 +46,7 @@ fn filter_file<W: Write>(
 fn filter_files<W: Write>(
     rt: &HostRuntime,
     files: &[String],
-    wanted: Wanted<'_>,
+    wanted: Criterion<'_>,
     output: &mut W,
 ) -> io::Result<Option<bool>> {
     let mut is_fine = true;
@@ -61,7 +61,7 @@ fn filter_files<W: Write>(
 
 /// Filters the standard input, or the files of these names. It returns the status: 0 where each line is a record as far as it was
 /// read, 1 where one isn't, which is told, and 2 where a file can't be opened.
-pub fn run(rt: &HostRuntime, wanted: Wanted<'_>, files: &[String]) -> io::Result<u8> {
+pub fn run(rt: &HostRuntime, wanted: Criterion<'_>, files: &[String]) -> io::Result<u8> {
     let mut output = BufWriter::new(rt.alloc(), rt.stdout())?;
     let is_fine = if files.is_empty() {
         Some(filter_input(rt, wanted, &mut output)?)

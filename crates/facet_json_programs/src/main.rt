@@ -24,7 +24,7 @@ mod rules;
 mod settings;
 mod validate;
 
-use crate::filter::Wanted;
+use crate::filter::Criterion;
 use std::process::ExitCode;
 use std::{env, io};
 
@@ -49,7 +49,7 @@ fn run_log_filter(rt: &HostRuntime, args: &[String]) -> io::Result<Option<u8>> {
         [option, condition, files @ ..] if option.as_str() == "--where" => {
             match condition.as_str().split_once('=') {
                 Some((name, value)) => {
-                    Ok(Some(log_filter::run(rt, Wanted { name, value }, files)?))
+                    Ok(Some(log_filter::run(rt, Criterion { name, value }, files)?))
                 }
                 None => Ok(None),
             }

@@ -5,7 +5,7 @@ ghost use Rattle.facet_json.specs.Event.{bytes_of};
 ghost use Rattle.facet_json.specs.Text.{default_options, text};
 ghost use Rattle.facet_json_programs.specs.Answers.{answer as answer_tree};
 
-use crate::fault::Fault;
+use crate::fault::RpcFault;
 use crate::methods::call;
 use crate::requests::{Request, read_request};
 use facet_json::{
@@ -37,7 +37,7 @@ fn answer_text<'a>(
 fn answer_of<'a>(
     alloc: Global,
     id: &'a str,
-    outcome: &Result<RawJson<'a>, Fault>,
+    outcome: &Result<RawJson<'a>, RpcFault>,
 ) -> Result<Vec<u8>, JsonSerializeError> {
     let id = RawJson::new(id);
     match outcome {
@@ -59,7 +59,7 @@ fn answer(alloc: Global, request: &Request<'_>) -> Result<Option<Vec<u8>>, JsonS
 }
 
 /// The answer where the id of a request is not known.
-fn refusal(alloc: Global, fault: Fault) -> Result<Option<Vec<u8>>, JsonSerializeError> {
+fn refusal(alloc: Global, fault: RpcFault) -> Result<Option<Vec<u8>>, JsonSerializeError> {
     Ok(Some(answer_of(alloc, "null", &Err(fault))?))
 }
 
@@ -94,7 +94,7 @@ fn serve<R: BufRead + Drop, W: Write>(alloc: Global, input: R, output: &mut W) -
         match lines.next_line() {
             Ok(Some(line)) => send(output, answer_to(alloc, line.text))?,
             Ok(None) => return Ok(()),
-            Err(LineError::TooLong { .. }) => send(output, refusal(alloc, Fault::Length))?,
+            Err(LineError::TooLong { .. }) => send(output, refusal(alloc, RpcFault::Length))?,
             Err(LineError::Memory) => return Err(io::Error::from(ErrorKind::OutOfMemory)),
             Err(LineError::Io(error)) => return Err(error),
         }

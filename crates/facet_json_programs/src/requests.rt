@@ -2,9 +2,9 @@
 
 ghost use Rattle.std.specs.Prelude.{◌≡◌, ◌⊎◌, OnOk, IfErr};
 ghost use Rattle.facet_json.specs.StrictDocument.{IsStrict};
-ghost use Rattle.facet_json_programs.specs.declared.fault.Fault.TheVariants.{Parse, Memory};
+ghost use Rattle.facet_json_programs.specs.declared.fault.RpcFault.TheVariants.{Parse, Memory};
 
-use crate::fault::Fault;
+use crate::fault::RpcFault;
 use crate::members::member;
 use facet_json::{check_strict, from_str};
 use std::alloc::Global;
@@ -21,22 +21,22 @@ pub struct Request<'de> {
 }
 
 /// Checks that a line is one text of RFC 8259, and keeps nothing of it.
-fn check(alloc: Global, line: &[u8]) -> Result<(), Fault>
+fn check(alloc: Global, line: &[u8]) -> Result<(), RpcFault>
     ensures strict { OnOk result (IsStrict line.now) }
     ensures fault { IfErr result (λ fault. (fault ≡ Memory) ⊎ ((fault ≡ Parse) × (IsStrict line.now → ⊥))) }
 {
     match check_strict(alloc, line) {
         Ok(()) => Ok(()),
-        Err(refused) => Err(Fault::Parse.or_memory(refused.kind)),
+        Err(refused) => Err(RpcFault::Parse.or_memory(refused.kind)),
     }
 }
 
 /// The text that a part is.
-fn text_in(alloc: Global, json: &str) -> Result<String, Fault> {
+fn text_in(alloc: Global, json: &str) -> Result<String, RpcFault> {
     if json.starts_with('"') {
         Ok(from_str(alloc, json)?)
     } else {
-        Err(Fault::Request)
+        Err(RpcFault::Request)
     }
 }
 
@@ -51,24 +51,24 @@ fn is_structured(json: &str) -> bool {
 }
 
 /// Checks that a line has the version's member.
-fn check_version(alloc: Global, line: &[u8]) -> Result<(), Fault> {
-    let version = member(alloc, line, "jsonrpc")?.ok_or(Fault::Request)?;
+fn check_version(alloc: Global, line: &[u8]) -> Result<(), RpcFault> {
+    let version = member(alloc, line, "jsonrpc")?.ok_or(RpcFault::Request)?;
     if text_in(alloc, version)?.as_str() == "2.0" {
         Ok(())
     } else {
-        Err(Fault::Request)
+        Err(RpcFault::Request)
     }
 }
 
 /// The request that a line is. The first member of each name counts.
-pub fn read_request<'de>(alloc: Global, line: &'de [u8]) -> Result<Request<'de>, Fault>
+pub fn read_request<'de>(alloc: Global, line: &'de [u8]) -> Result<Request<'de>, RpcFault>
     ensures strict { OnOk result (IsStrict line.now) }
 {
     check(alloc, line)?;
     check_version(alloc, line)?;
     let id = member(alloc, line, "id")?;
     let params = member(alloc, line, "params")?.unwrap_or("[]");
-    let method = member(alloc, line, "method")?.ok_or(Fault::Request)?;
+    let method = member(alloc, line, "method")?.ok_or(RpcFault::Request)?;
     if is_id(id.unwrap_or("null")) && is_structured(params) {
         Ok(Request {
             id,
@@ -76,6 +76,6 @@ pub fn read_request<'de>(alloc: Global, line: &'de [u8]) -> Result<Request<'de>,
             params,
         })
     } else {
-        Err(Fault::Request)
+        Err(RpcFault::Request)
     }
 }

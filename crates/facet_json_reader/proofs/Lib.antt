@@ -8,10 +8,12 @@ pub mod DigitWords
 pub mod EightDigits
 pub mod EventsAtTurns
 pub mod FirstBytesOfEvents
+pub mod Fronts
 pub mod Judged
 pub mod MeaninglessTokens
 pub mod PackedKinds
 pub mod PastSeparators
+pub mod PointedNumbers
 pub mod QuickEvents
 pub mod RfcNumbersThere
 pub mod SameEnd

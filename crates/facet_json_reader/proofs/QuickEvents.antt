@@ -2,6 +2,7 @@
 use Rattle.std.proofs.Common.{◌≡◌, ℕ, ◌+◌, ◌-◌, ◌≤◌, ◌<◌, Bool, true, false, List, [], ◌∷◌, Option, Some, None, length, drop, slice_get, refl, sym, ap, ap₂, ◌∙◌, arith}
 use Rattle.std.specs.Prelude.{codes, IfSome}
 use Rattle.std.specs.Option.{option_map}
+use Rattle.std.proofs.lemmas.Option.{slice_get_within}
 use Rattle.facet_json_reader.specs.declared.reader.Reader.{Reader}
 use Rattle.facet_format.specs.declared.event.Span.{Span as RustSpan}
 use Rattle.facet_format.specs.declared.event.ContainerKind.{ContainerKind as RustContainerKind}
@@ -21,7 +22,7 @@ use Rattle.facet_json_grammar.specs.Language.{Language, gaps, rules}
 use Rattle.facet_json_grammar.specs.Refusal.{needs_meaning}
 use Rattle.facet_json_grammar.specs.StrictTokens.{tokens_in, Allows}
 use Rattle.facet_json_grammar.proofs.TokensIn.{allowed-plain}
-use Rattle.facet_json_token.specs.Token.{Kind, Token, colon, string}
+use Rattle.facet_json_token.specs.Token.{Kind, Token, colon, comma, string}
 use Rattle.facet_json_token.specs.Token as token
 use Rattle.facet_json_token.specs.Tokens.{Tokens, next}
 use Rattle.facet_json_grammar.specs.Future.{gives, Stage, within, after_value, stack_after, stage_after, turn, reads_by, reads_colon_by}
@@ -117,7 +118,7 @@ closing-cut mode buffer at containers.Object here = mark-cut mode buffer at mark
 closing-cut mode buffer at containers.Array here = mark-cut mode buffer at mark_byte.right_bracket token.array_end here refl
 
 -- A container may open where a value may stand.
-opens-here : (place : Place) (kind : RustContainerKind) → MayBeValue place → place_turn place (opening_token kind) ≡ says (opening_event kind)
+pub opens-here : (place : Place) (kind : RustContainerKind) → MayBeValue place → place_turn place (opening_token kind) ≡ says (opening_event kind)
 opens-here place containers.Object may = object_here [] place (takes_value place may)
 opens-here place containers.Array may = array_here [] place (takes_value place may)
 
@@ -158,14 +159,15 @@ module _ (buffer : List ℕ) (language : Language) (r : Reader) (place : Place) 
       let plain = mark-plain place kind (ap is_mark turns ∙ mark) in
       turn-comes is kind len way (allowed-plain language buffer (record { kind = kind; span = span_at at len }) plain) cuts (turn-plain buffer place (record { kind = kind; span = span_at at len }) kind refl plain ∙ turns)
 
-  -- A separator leads to another place.
-  pub separator-reaches : (other : Place) (to : ℕ) (kind : Kind) → Reaches buffer language r place at → place_turn place kind ≡ passes other →
-      cut_here (gaps language) at (drop at buffer) ≡ token_at kind at 1 → at + 1 ≤ length buffer → to ≡ past_gap buffer (at + 1) (gaps language) → Reaches buffer language r (led (rules language) other) to
-  separator-reaches other to kind is turns cuts room gap = record {
+  -- A comma leads to the place after it.
+  pub comma-reaches : (other : Place) (to : ℕ) → Reaches buffer language r place at → place_turn place comma ≡ passes other →
+      slice_get buffer at ≡ Some mark_byte.comma → to ≡ past_gap buffer (at + 1) (gaps language) → Reaches buffer language r (led (rules language) other) to
+  unfolding start_of
+  comma-reaches other to is turns here gap = record {
     from = at + 1;
-    fits = room;
+    fits = omega (arith, slice_get_within buffer at mark_byte.comma here);
     gap = gap;
-    comes = sym (mark-comes is kind 1 (passes other) cuts turns refl);
+    comes = sym (mark-comes is comma 1 (passes other) (mark-cut (gaps language) buffer at mark_byte.comma comma here refl) turns refl);
   }
 
   -- A bracket gives its event.

@@ -1,5 +1,6 @@
 -- Definitions that serve private contracts alone.
 pub mod Digits
+pub mod InSight
 pub mod Quick
 pub mod Short
 pub mod Sorts

@@ -3,12 +3,15 @@ use Rattle.std.specs.Prelude.{◌≡◌, ◌<◌, ◌+◌, ◌-◌, ◌==◌, �
 use Rattle.std.specs.List.{list_all}
 use Rattle.facet_format.specs.Bytes.{quote, backslash}
 use Rattle.facet_format.specs.Event.{Scalar}
+use Rattle.facet_format.specs.Span.{span_at}
 use Rattle.facet_json_token.specs.Cut.{has_backslash, cut_here, token_at}
 use Rattle.facet_json_token.specs.Gap.{Mode}
 use Rattle.facet_json_token.specs.Token.{Kind, string}
 use Rattle.facet_json_token.specs.Decoded.{decoded}
+use Rattle.facet_json_grammar.specs.Language.{Language}
 use Rattle.facet_json_grammar.specs.Meaning.{meaning_of}
 use Rattle.facet_json_grammar.specs.Node.{is_scalar}
+use Rattle.facet_json_grammar.specs.StrictTokens.{Allows}
 use Rattle.facet_json_grammar.specs.Tree.{Tree}
 use Rattle.facet_json_grammar.specs.Walk.{scalar_of}
 
@@ -38,3 +41,9 @@ pub record IsScalarThere (buffer : List ℕ) (at len : ℕ) (value : Scalar) : T
   pub scalar : is_scalar kind ≡ true
   pub means : meaning_of buffer kind ≡ Some meant
   pub read : value ≡ scalar_of kind (Some meant)
+
+-- At this offset stands a scalar of so many bytes that the language allows.
+pub record IsAllowedThere (language : Language) (buffer : List ℕ) (at len : ℕ) : Type 0 where
+  pub value : Scalar
+  pub there : IsScalarThere buffer at len value
+  pub allowed : Allows language buffer (record { kind = there.kind; span = span_at at len })

@@ -3,6 +3,7 @@
 //! (`Refused`).
 #![tactic(auto)]
 
+mod in_sight;
 mod materialized;
 mod number;
 mod place;

@@ -5,7 +5,7 @@ ghost use Rattle.std.specs.Prelude.{take, ◌≢◌, ◌==◌, ◌||◌, pos, ne
 ghost use Rattle.facet_format.specs.Number.{AreDigits, float};
 ghost use Rattle.facet_format.specs.NumberValue.{digits_value};
 ghost use Rattle.facet_format.specs.Event.{decimal};
-ghost use Rattle.facet_format.specs.NumberParts.{parts as number_parts, parts_len};
+ghost use Rattle.facet_format.specs.NumberParts.{parts as number_parts, parts_len, digits_len};
 ghost use Rattle.facet_format.specs.Views.{scalar_value_of};
 ghost use Rattle.facet_json_token.specs.Cut.{start_of, opens_number};
 ghost use Rattle.facet_json_token.specs.Token.{Kind};
@@ -15,8 +15,8 @@ ghost use Rattle.facet_json_grammar.specs.Meaning.{tree_of_number};
 ghost use Rattle.facet_json_grammar.specs.Walk.{scalar_by};
 ghost use Rattle.facet_json_token.specs.RfcNumber.{SomeDigits, IsRfcNumber};
 ghost use Rattle.facet_json_reader.specs.Inner.Whole.{digits_from, OpensNumber, IsWholeNumber, whole_scalar};
-ghost use Rattle.facet_json_reader.specs.Inner.Short.{IsDecimalThere, IsShortNumber, IsShortIn};
-ghost use Rattle.facet_json_reader.specs.Values.{IsScalarThere};
+ghost use Rattle.facet_json_reader.specs.Inner.Short.{IsDecimalThere, IsPointed, IsShortNumber, IsShortIn};
+ghost use Rattle.facet_json_reader.specs.Values.{IsScalarThere, IsAllowedThere};
 ghost use Rattle.facet_format.specs.Span.{span_at};
 ghost use Rattle.facet_json_grammar.specs.StrictTokens.{Allows};
 ghost use Rattle.facet_json_reader.specs.PlaceViews.{language_of};
@@ -143,6 +143,96 @@ pub(crate) fn short_number_in(
     match language {
         Language::Plain | Language::Jsonc => short_number(input, at, first),
         Language::Strict => short_number_strict(input, at, first),
+    }
+}
+
+/// The length of the number at `at`, of which this is the first byte, where its value allocates nothing and the language allows it.
+#[inline(always)]
+pub(crate) fn number_len(input: &[u8], language: Language, at: usize, first: u8) -> Option<usize>
+    requires here { slice_get input.now at ≡ Some first }
+    requires number { start_of first ≡ opens_number }
+    ensures { IfSome result (λ len. IsAllowedThere (language_of language) input.now at len) }
+{
+    if let Some((len, _)) = short_whole_in(input, language, at, first) {
+        return Some(len);
+    }
+    match pointed_len_in(input, language, at, first) {
+        Some(len) => Some(len),
+        None => other_number_len(input, language, at, first),
+    }
+}
+
+/// The length of such a number with a fraction and no exponent, where the language has it without a look at its zeros.
+#[inline(always)]
+fn pointed_len_in(input: &[u8], language: Language, at: usize, first: u8) -> Option<usize>
+    requires here { slice_get input.now at ≡ Some first }
+    requires number { start_of first ≡ opens_number }
+    ensures { IfSome result (λ len. IsAllowedThere (language_of language) input.now at len) }
+{
+    match language {
+        Language::Plain | Language::Jsonc => {
+            let len = pointed_len(input, at, first)?;
+            match decimal_at(input, at, len) {
+                Some(_) => Some(len),
+                None => None,
+            }
+        }
+        Language::Strict => None,
+    }
+}
+
+/// The length of the number at `at` where it is digits, a dot and digits, perhaps after a minus, at most fifteen before the dot and behind
+/// it, and enough bytes stand there.
+#[inline(always)]
+fn pointed_len(input: &[u8], at: usize, first: u8) -> Option<usize>
+    requires here { slice_get input.now at ≡ Some first }
+    requires number { start_of first ≡ opens_number }
+    ensures { IfSome result (λ len. IsDecimalThere input.now at len) }
+{
+    if input.len() - at < 34 {
+        return None;
+    }
+    if first == b'-' {
+        let len = point_len(input, at + 1)?;
+        Some(len + 1)
+    } else {
+        let len = point_len(input, at)?;
+        Some(len)
+    }
+}
+
+/// The length of the digits, the dot and the digits at `at`, where no exponent is after them.
+#[inline(always)]
+fn point_len(input: &[u8], at: usize) -> Option<usize>
+    requires { at + 33 ≤ length input.now }
+    ensures pointed { IfSome result (λ len. IsPointed (drop at input.now) len) }
+    ensures few { IfSome result (λ len. len < 32) }
+{
+    let whole = some_digits(input, at)?;
+    if input[at + whole] != b'.' {
+        return None;
+    }
+    let more = some_digits(input, at + whole + 1)?;
+    if begins_part(input[at + whole + 1 + more]) {
+        return None;
+    }
+    Some(whole + 1 + more)
+}
+
+/// The length of such a number that is no short whole one, by a call.
+#[inline(never)]
+fn other_number_len(input: &[u8], language: Language, at: usize, first: u8) -> Option<usize>
+    requires here { slice_get input.now at ≡ Some first }
+    requires number { start_of first ≡ opens_number }
+    ensures { IfSome result (λ len. IsAllowedThere (language_of language) input.now at len) }
+{
+    let (len, whole) = short_number_in(input, language, at, first)?;
+    match whole {
+        Some(_) => Some(len),
+        None => match decimal_at(input, at, len) {
+            Some(_) => Some(len),
+            None => None,
+        },
     }
 }
 
@@ -331,12 +421,23 @@ fn whole_len(input: &[u8], at: usize) -> Option<usize>
     requires { at + 16 ≤ length input.now }
     ensures { IfSome result (λ n. IsWholeNumber (drop at input.now) n) }
 {
+    let len = some_digits(input, at)?;
+    if begins_part(input[at + len]) {
+        return None;
+    }
+    Some(len)
+}
+
+/// How many digits stand at `at`, where some and at most fifteen do.
+#[inline(always)]
+fn some_digits(input: &[u8], at: usize) -> Option<usize>
+    requires { at + 16 ≤ length input.now }
+    ensures digits { IfSome result (λ n. n ≡ digits_len (drop at input.now)) }
+    ensures some { IfSome result (λ n. (0 < n) × (n < 16)) }
+{
     let found = no_digits(u8x16::from_slice(&input[at..]));
     let len = found.trailing_zeros() as usize;
     if found == 0 || len == 0 {
-        return None;
-    }
-    if begins_part(input[at + len]) {
         return None;
     }
     Some(len)

@@ -49,10 +49,7 @@ impl Ahead {
     pub(crate) fn is_value(self) -> bool
         ensures { result ≡ true → MayBeValue (place_of self.place) }
     {
-        match self.place.turn_by(Sort::Scalar) {
-            Turn::Scalar => true,
-            _ => false,
-        }
+        self.place.takes_value()
     }
 
     /// Whether a key may stand there.
@@ -62,6 +59,19 @@ impl Ahead {
     {
         match self.place.turn_by(Sort::Text) {
             Turn::Names => true,
+            _ => false,
+        }
+    }
+}
+
+impl Place {
+    /// Whether a value may stand there.
+    #[inline(always)]
+    pub(crate) fn takes_value(self) -> bool
+        ensures { result ≡ true → MayBeValue (place_of self) }
+    {
+        match self.turn_by(Sort::Scalar) {
+            Turn::Scalar => true,
             _ => false,
         }
     }
@@ -316,7 +326,7 @@ fn first_byte(kind: ContainerKind) -> u8
 
 /// The sort of the bracket that closes a container of this kind.
 #[inline(always)]
-fn closing_sort(kind: ContainerKind) -> Sort
+pub(crate) fn closing_sort(kind: ContainerKind) -> Sort
     ensures { kind_by result ≡ Some (closing_token kind) }
 {
     match kind {

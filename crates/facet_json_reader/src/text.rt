@@ -1,6 +1,6 @@
 //! Texts without an escape, from their bytes: sixteen at once, then thirty-two at a time.
 
-ghost use Rattle.std.specs.Prelude.{◌≡◌, ◌<◌, ◌+◌, ℕ, Bool, not, length, Some, slice_get, slice_range, IfSome, IsUtf8, ◌≤◌, drop};
+ghost use Rattle.std.specs.Prelude.{◌≡◌, ◌<◌, ◌+◌, ℕ, Bool, List, not, length, Some, slice_get, slice_range, IfSome, IsUtf8, ◌≤◌, drop};
 ghost use Rattle.std.specs.Prelude.{map};
 ghost use Rattle.facet_format.specs.Bytes.{quote, space};
 ghost use Rattle.facet_json_reader.specs.PlaceViews.{language_of, least_of};
@@ -46,6 +46,43 @@ fn strict_text_at<'de>(input: &'de [u8], trust: Trust, at: usize) -> Option<(usi
     ensures within { IfSome result (λ r. (at < r.0) × (r.0 < length input.now)) }
 {
     text_from(input, trust, at, b' ')
+}
+
+/// The offset of the quote that closes the string whose quote is at `at`, where it holds no escape, is UTF-8 and the language allows it.
+#[inline(always)]
+pub(crate) fn text_end(input: &[u8], language: Language, at: usize) -> Option<usize>
+    requires { slice_get input.now at ≡ Some quote }
+    ensures { IfSome result (λ end. IsClosedAt (least_of (language_of language)) input.now at end
+        × ((text : List ℕ) × IsPlainText input.now at end text)) }
+{
+    let least = least_in(language);
+    let end = run_end::<Ordinary>(input, at + 1, least);
+    match input.get(end) {
+        Some(b'"') => Some(end),
+        _ => other_text_end(input, at, end, least),
+    }
+}
+
+/// The least byte that may stand unescaped in a text of this language.
+#[inline(always)]
+fn least_in(language: Language) -> u8
+    ensures { result ≡ least_of (language_of language) }
+{
+    match language {
+        Language::Plain | Language::Jsonc => 0,
+        Language::Strict => b' ',
+    }
+}
+
+/// The end of such a text whose ordinary bytes end at `from`, by a call.
+#[inline(never)]
+fn other_text_end(input: &[u8], at: usize, from: usize, least: u8) -> Option<usize>
+    requires here { slice_get input.now at ≡ Some quote }
+    requires ordinary { from ≡ (at + 1) + prefix_len (is_ordinary least) (drop (at + 1) input.now) }
+    ensures { IfSome result (λ end. IsClosedAt least input.now at end × ((text : List ℕ) × IsPlainText input.now at end text)) }
+{
+    let (end, _) = other_text_at(input, at, from, least)?;
+    Some(end)
 }
 
 /// The text of a string in which no escape and no byte below `least` stands.

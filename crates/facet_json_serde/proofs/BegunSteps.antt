@@ -9,8 +9,8 @@ use Rattle.facet_json_grammar.specs.Tree.{Tree, list, pairs, Trees, no_trees, tr
 use Rattle.facet_json_serializer.specs.Serializer.{Writing, WriteRefusal, addition, Takes, Appends, appends, refuses, runs_out, stays_out, IsSpent}
 use Rattle.facet_json_serializer.specs.TreeCalls.{tree_calls}
 use Rattle.facet_json_serializer.proofs.CallsTaken.{tree_taken}
-use Rattle.facet_json_serde.specs.declared.stage.Stage.{Stage}
-use Rattle.facet_json_serde.specs.declared.stage.Stage.TheVariants.{Value, Whole, Item, Key, Named}
+use Rattle.facet_json_serde.specs.declared.due.Due.{Due}
+use Rattle.facet_json_serde.specs.declared.due.Due.TheVariants.{Value, Whole, Item, Key, Named}
 use Rattle.facet_json_serde.specs.Begun.{IsFormed, Level, in_items, in_members, Begun, within, whole, levels_calls, begun_calls, awaits_value, AreSound, with_item, with_pair, put}
 use Rattle.facet_format.specs.Event.{Scalar, borrowed, owned}
 use Rattle.facet_format.specs.Event as event
@@ -34,7 +34,7 @@ one_more first old new [] call taken step = (new, subst (λ s. Takes s call new)
 one_more first old new (other ∷ calls) call taken step = (taken.0, taken.1, one_more taken.0 old new calls call taken.2 step)
 
 -- The value goes on so by a call.
-pub record GoesOn (call : SerializerCall) (b : Begun) (stage : Stage) (around : List Stage) : Type 0 where
+pub record GoesOn (call : SerializerCall) (b : Begun) (stage : Due) (around : List Due) : Type 0 where
   pub then : Begun
   pub calls : begun_calls then ≡ begun_calls b ++ call ∷ []
   pub sound : sound_of then
@@ -42,10 +42,10 @@ pub record GoesOn (call : SerializerCall) (b : Begun) (stage : Stage) (around : 
   pub is_around : around ≡ around_of then
 
 -- How every value goes on that is begun so.
-abbrev pub GoesOnFrom : SerializerCall → Stage → List Stage → Stage → List Stage → Type 0
+abbrev pub GoesOnFrom : SerializerCall → Due → List Due → Due → List Due → Type 0
 GoesOnFrom call stage around after outer = (b : Begun) → sound_of b → stage ≡ stage_begun b → around ≡ around_of b → GoesOn call b after outer
 
-has_more : (o : Options) (old new : Option Writing) (call : SerializerCall) (stage after : Stage) (around outer : List Stage) → Takes old call new
+has_more : (o : Options) (old new : Option Writing) (call : SerializerCall) (stage after : Due) (around outer : List Due) → Takes old call new
     → GoesOnFrom call stage around after outer → BegunValue o old stage around → BegunValue o new after outer
 has_more o old new call stage after around outer step goes has =
     let next = goes has.begun has.sound has.at_stage has.is_around in
@@ -58,7 +58,7 @@ has_more o old new call stage after around outer step goes has =
     }
 
 -- A call that is served goes on with the value as one that appends the same.
-pub served-goes_on_as : {E : Type 0} (o : Options) (old new : Option Writing) (asked call : SerializerCall) (stage after : Stage) (around outer : List Stage)
+pub served-goes_on_as : {E : Type 0} (o : Options) (old new : Option Writing) (asked call : SerializerCall) (stage after : Due) (around outer : List Due)
     (result : Result (Unit {0}) E) (x : Unit {0}) → result ≡ Ok x → IsServed Takes IsSpent old asked result new → (Takes old asked new → Takes old call new)
     → GoesOnFrom call stage around after outer → IsBegun o old stage around → IsBegun o new after outer
 served-goes_on_as {E} o old new asked call stage after around outer result x ok served same goes begun =
@@ -69,7 +69,7 @@ served-goes_on_as {E} o old new asked call stage after around outer result x ok 
     ])
 
 -- a call that is served goes on with the value
-pub served-goes_on : {E : Type 0} (o : Options) (old new : Option Writing) (call : SerializerCall) (stage after : Stage) (around outer : List Stage) (result : Result (Unit {0}) E)
+pub served-goes_on : {E : Type 0} (o : Options) (old new : Option Writing) (call : SerializerCall) (stage after : Due) (around outer : List Due) (result : Result (Unit {0}) E)
     (x : Unit {0}) → result ≡ Ok x → IsServed Takes IsSpent old call result new → GoesOnFrom call stage around after outer → IsBegun o old stage around
     → IsBegun o new after outer
 served-goes_on o old new call stage after around outer result x ok served goes begun =
@@ -147,7 +147,7 @@ value-at t call (within levels) formed one sound may =
     let awaits = awaits-takes levels ∙ may in
     put-goes_on t call (within levels) levels formed awaits sound (value_stands t levels awaits ∙ ap (λ calls. levels_calls levels ++ calls) one)
 
-pub value-goes_on : (t : Tree) (call : SerializerCall) (stage : Stage) (around : List Stage) → IsFormed t → tree_calls t ≡ call ∷ [] → takes_value stage ≡ true
+pub value-goes_on : (t : Tree) (call : SerializerCall) (stage : Due) (around : List Due) → IsFormed t → tree_calls t ≡ call ∷ [] → takes_value stage ≡ true
     → GoesOnFrom call stage around (stage_after_value stage) around
 value-goes_on t call stage around formed one may b sound at_stage is_around =
     rw (at_stage, is_around) (value-at t call b formed one sound (ap takes_value (sym at_stage) ∙ may))
@@ -171,7 +171,7 @@ scalar-tree (event.bytes b) is = (trees.bytes b, refl, (is, tt))
 
 -- ---- keys
 
-abbrev is_key : Stage → Bool
+abbrev is_key : Due → Bool
 is_key Value = false
 is_key Whole = false
 is_key Item = false
@@ -186,7 +186,7 @@ key-at key (within (in_members members None ∷ around)) utf8 sound is =
     record { then = within (in_members members (Some key) ∷ around); calls = key_begins members key around; sound = (sound.0, (utf8, sound.1), sound.2); at_stage = refl; is_around = refl }
 key-at key (within (in_members members (Some other) ∷ around)) utf8 sound is = absurd (true≢false (sym is))
 
-pub key-goes_on : (key : List ℕ) (stage : Stage) (around : List Stage) → is_utf8 key ≡ true → stage ≡ Key → GoesOnFrom (field_key key) stage around Named around
+pub key-goes_on : (key : List ℕ) (stage : Due) (around : List Due) → is_utf8 key ≡ true → stage ≡ Key → GoesOnFrom (field_key key) stage around Named around
 key-goes_on key stage around utf8 is b sound at_stage is_around = rw (is_around) (key-at key b utf8 sound (ap is_key (sym at_stage ∙ is)))
 
 -- ---- containers that begin
@@ -196,7 +196,7 @@ list-at (whole t) sound may = absurd (true≢false (sym may))
 list-at (within levels) sound may =
     record { then = within (in_items no_trees ∷ levels); calls = list_begins levels; sound = (awaits-takes levels ∙ may, no_items-formed, sound); at_stage = refl; is_around = refl }
 
-pub list-goes_on : (stage : Stage) (around : List Stage) → takes_value stage ≡ true → GoesOnFrom begin_seq stage around Item (around ++ stage ∷ [])
+pub list-goes_on : (stage : Due) (around : List Due) → takes_value stage ≡ true → GoesOnFrom begin_seq stage around Item (around ++ stage ∷ [])
 list-goes_on stage around may b sound at_stage is_around = rw (at_stage, is_around) (list-at b sound (ap takes_value (sym at_stage) ∙ may))
 
 struct-at : (b : Begun) → sound_of b → takes_value (stage_begun b) ≡ true → GoesOn begin_struct b Key (around_of b ++ stage_begun b ∷ [])
@@ -204,12 +204,12 @@ struct-at (whole t) sound may = absurd (true≢false (sym may))
 struct-at (within levels) sound may =
     record { then = within (in_members no_pairs None ∷ levels); calls = struct_begins levels; sound = (awaits-takes levels ∙ may, no_members-formed, sound); at_stage = refl; is_around = refl }
 
-pub struct-goes_on : (stage : Stage) (around : List Stage) → takes_value stage ≡ true → GoesOnFrom begin_struct stage around Key (around ++ stage ∷ [])
+pub struct-goes_on : (stage : Due) (around : List Due) → takes_value stage ≡ true → GoesOnFrom begin_struct stage around Key (around ++ stage ∷ [])
 struct-goes_on stage around may b sound at_stage is_around = rw (at_stage, is_around) (struct-at b sound (ap takes_value (sym at_stage) ∙ may))
 
 -- ---- containers that end
 
-abbrev is_item : Stage → Bool
+abbrev is_item : Due → Bool
 is_item Value = false
 is_item Whole = false
 is_item Item = true
@@ -217,23 +217,23 @@ is_item Key = false
 is_item Named = false
 
 -- the stages around a container end with the innermost one, which alone is taken off
-abbrev is_nil : List Stage → Bool
+abbrev is_nil : List Due → Bool
 is_nil [] = true
 is_nil (s ∷ others) = false
 
-abbrev first_or : Stage → List Stage → Stage
+abbrev first_or : Due → List Due → Due
 first_or s [] = s
 first_or s (t ∷ others) = t
 
-abbrev others_of : List Stage → List Stage
+abbrev others_of : List Due → List Due
 others_of [] = []
 others_of (s ∷ others) = others
 
-not-nil : (before : List Stage) (s : Stage) → is_nil (before ++ s ∷ []) ≡ false
+not-nil : (before : List Due) (s : Due) → is_nil (before ++ s ∷ []) ≡ false
 not-nil [] s = refl
 not-nil (t ∷ others) s = refl
 
-same-last : (before rest : List Stage) (s t : Stage) → before ++ s ∷ [] ≡ rest ++ t ∷ [] → (before ≡ rest) × (s ≡ t)
+same-last : (before rest : List Due) (s t : Due) → before ++ s ∷ [] ≡ rest ++ t ∷ [] → (before ≡ rest) × (s ≡ t)
 same-last [] [] s t same = (refl, ap (first_or s) same)
 same-last [] (u ∷ rest) s t same = absurd (true≢false (ap (λ l. is_nil (others_of l)) same ∙ not-nil rest t))
 same-last (r ∷ before) [] s t same = absurd (true≢false (sym (ap (λ l. is_nil (others_of l)) same) ∙ not-nil before s))
@@ -243,23 +243,23 @@ same-last (r ∷ before) (u ∷ rest) s t same =
     (ap (λ l. r ∷ l) inner.0 ∙ ap (λ f. f ∷ rest) firsts, inner.1)
 
 -- the outer stage is popped, and the others stay
-pops : (before rest : List Stage) (s : Stage) (popped : Option Stage) → before ++ s ∷ [] ≡ rest ++ option_to_list popped → IsSome popped
+pops : (before rest : List Due) (s : Due) (popped : Option Due) → before ++ s ∷ [] ≡ rest ++ option_to_list popped → IsSome popped
     → (before ≡ rest) × (s ≡ unwrap_or popped Value)
 pops before rest s None same some = absurd (true≢false (sym some))
 pops before rest s (Some t) same some = same-last before rest s t same
 
-longer : (before : List Stage) (s : Stage) → 0 < length (before ++ s ∷ [])
+longer : (before : List Due) (s : Due) → 0 < length (before ++ s ∷ [])
 longer [] s = omega arith
 longer (t ∷ others) s = omega arith
 
-ended-at : (t : Tree) (call : SerializerCall) (b : Begun) (outer : List Level) (rest : List Stage) (popped : Option Stage) → IsFormed t → awaits_value outer ≡ true → AreSound outer
+ended-at : (t : Tree) (call : SerializerCall) (b : Begun) (outer : List Level) (rest : List Due) (popped : Option Due) → IsFormed t → awaits_value outer ≡ true → AreSound outer
     → begun_calls (put t outer) ≡ begun_calls b ++ call ∷ [] → stages_around outer ++ stage_within outer ∷ [] ≡ rest ++ option_to_list popped
     → (0 < length (stages_around outer ++ stage_within outer ∷ []) → IsSome popped) → GoesOn call b (stage_after_value (unwrap_or popped Value)) rest
 ended-at t call b outer rest popped formed awaits sound calls same some =
     let off = pops (stages_around outer) rest (stage_within outer) popped same (some (longer (stages_around outer) (stage_within outer))) in
     rw (sym off.0, sym off.1) (put-goes_on t call b outer formed awaits sound calls)
 
-end-list-at : (b : Begun) (rest : List Stage) (popped : Option Stage) → sound_of b → is_item (stage_begun b) ≡ true → around_of b ≡ rest ++ option_to_list popped
+end-list-at : (b : Begun) (rest : List Due) (popped : Option Due) → sound_of b → is_item (stage_begun b) ≡ true → around_of b ≡ rest ++ option_to_list popped
     → (0 < length (around_of b) → IsSome popped) → GoesOn end_seq b (stage_after_value (unwrap_or popped Value)) rest
 end-list-at (whole t) rest popped sound is same some = absurd (true≢false (sym is))
 end-list-at (within []) rest popped sound is same some = absurd (true≢false (sym is))
@@ -268,12 +268,12 @@ end-list-at (within (in_items items ∷ outer)) rest popped sound is same some =
 end-list-at (within (in_members members None ∷ outer)) rest popped sound is same some = absurd (true≢false (sym is))
 end-list-at (within (in_members members (Some key) ∷ outer)) rest popped sound is same some = absurd (true≢false (sym is))
 
-pub list_end-goes_on : (stage : Stage) (around rest : List Stage) (popped : Option Stage) → stage ≡ Item → around ≡ rest ++ option_to_list popped
+pub list_end-goes_on : (stage : Due) (around rest : List Due) (popped : Option Due) → stage ≡ Item → around ≡ rest ++ option_to_list popped
     → (0 < length around → IsSome popped) → GoesOnFrom end_seq stage around (stage_after_value (unwrap_or popped Value)) rest
 list_end-goes_on stage around rest popped is same some b sound at_stage is_around =
     end-list-at b rest popped sound (ap is_item (sym at_stage ∙ is)) (sym is_around ∙ same) (subst (λ l. 0 < length l → IsSome popped) is_around some)
 
-end-struct-at : (b : Begun) (rest : List Stage) (popped : Option Stage) → sound_of b → is_key (stage_begun b) ≡ true → around_of b ≡ rest ++ option_to_list popped
+end-struct-at : (b : Begun) (rest : List Due) (popped : Option Due) → sound_of b → is_key (stage_begun b) ≡ true → around_of b ≡ rest ++ option_to_list popped
     → (0 < length (around_of b) → IsSome popped) → GoesOn end_struct b (stage_after_value (unwrap_or popped Value)) rest
 end-struct-at (whole t) rest popped sound is same some = absurd (true≢false (sym is))
 end-struct-at (within []) rest popped sound is same some = absurd (true≢false (sym is))
@@ -282,14 +282,14 @@ end-struct-at (within (in_members members None ∷ outer)) rest popped sound is 
     ended-at (pairs members) end_struct (within (in_members members None ∷ outer)) outer rest popped sound.1 sound.0 sound.2 (struct_ends members outer sound.0) same some
 end-struct-at (within (in_members members (Some key) ∷ outer)) rest popped sound is same some = absurd (true≢false (sym is))
 
-pub struct_end-goes_on : (stage : Stage) (around rest : List Stage) (popped : Option Stage) → stage ≡ Key → around ≡ rest ++ option_to_list popped
+pub struct_end-goes_on : (stage : Due) (around rest : List Due) (popped : Option Due) → stage ≡ Key → around ≡ rest ++ option_to_list popped
     → (0 < length around → IsSome popped) → GoesOnFrom end_struct stage around (stage_after_value (unwrap_or popped Value)) rest
 struct_end-goes_on stage around rest popped is same some b sound at_stage is_around =
     end-struct-at b rest popped sound (ap is_key (sym at_stage ∙ is)) (sym is_around ∙ same) (subst (λ l. 0 < length l → IsSome popped) is_around some)
 
 -- ---- the text of a value that is whole
 
-abbrev is_whole : Stage → Bool
+abbrev is_whole : Due → Bool
 is_whole Value = false
 is_whole Whole = true
 is_whole Item = false
@@ -311,7 +311,7 @@ abbrev is_there : Option Writing → Bool
 is_there None = false
 is_there (Some w) = true
 
-pub begun-text : (o : Options) (now : Option Writing) (stage : Stage) (around : List Stage) (w : Writing) (bytes : List ℕ) → stage ≡ Whole → now ≡ Some w
+pub begun-text : (o : Options) (now : Option Writing) (stage : Due) (around : List Due) (w : Writing) (bytes : List ℕ) → stage ≡ Whole → now ≡ Some w
     → bytes ≡ w.written → IsBegun o now stage around → IsTextOfTree o bytes
 begun-text o now stage around w bytes is left all begun =
     ∥∥₁_map begun (λ cases. elim cases [

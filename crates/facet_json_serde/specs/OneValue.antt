@@ -14,18 +14,18 @@ use Rattle.facet_format.specs.SerializerCall.{TakesAll}
 use Rattle.facet_json_grammar.specs.Text.{Options, text}
 use Rattle.facet_json_grammar.specs.Tree.{Tree}
 use Rattle.facet_json_serializer.specs.Serializer.{Writing, Takes}
-use Rattle.facet_json_serde.specs.declared.stage.Stage.{Stage}
-use Rattle.facet_json_serde.specs.declared.stage.Stage.TheVariants.{Value, Whole, Item, Key, Named}
+use Rattle.facet_json_serde.specs.declared.due.Due.{Due}
+use Rattle.facet_json_serde.specs.declared.due.Due.TheVariants.{Value, Whole, Item, Key, Named}
 use Rattle.facet_json_serde.specs.Begun.{Level, in_items, in_members, Begun, within, whole, begun_calls, IsFormed, AreSound}
 
-abbrev pub takes_value : Stage → Bool
+abbrev pub takes_value : Due → Bool
 takes_value Value = true
 takes_value Whole = false
 takes_value Item = true
 takes_value Key = false
 takes_value Named = true
 
-abbrev pub stage_after_value : Stage → Stage
+abbrev pub stage_after_value : Due → Due
 stage_after_value Value = Whole
 stage_after_value Whole = Whole
 stage_after_value Item = Item
@@ -33,22 +33,22 @@ stage_after_value Key = Key
 stage_after_value Named = Key
 
 -- what may come within these containers
-abbrev pub stage_within : List Level → Stage
+abbrev pub stage_within : List Level → Due
 stage_within [] = Value
 stage_within (in_items items ∷ around) = Item
 stage_within (in_members members None ∷ around) = Key
 stage_within (in_members members (Some key) ∷ around) = Named
 
-abbrev pub stage_begun : Begun → Stage
+abbrev pub stage_begun : Begun → Due
 stage_begun (within levels) = stage_within levels
 stage_begun (whole t) = Whole
 
 -- what may come around each container, the outermost first
-abbrev pub stages_around : List Level → List Stage
+abbrev pub stages_around : List Level → List Due
 stages_around [] = []
 stages_around (level ∷ around) = stages_around around ++ stage_within around ∷ []
 
-abbrev pub around_of : Begun → List Stage
+abbrev pub around_of : Begun → List Due
 around_of (within levels) = stages_around levels
 around_of (whole t) = []
 
@@ -57,7 +57,7 @@ sound_of (within levels) = AreSound levels
 sound_of (whole t) = IsFormed t
 
 -- The serializer took the calls of a value that is begun so.
-pub record BegunValue (o : Options) (now : Option Writing) (stage : Stage) (around : List Stage) : Type 0 where
+pub record BegunValue (o : Options) (now : Option Writing) (stage : Due) (around : List Due) : Type 0 where
   pub begun : Begun
   pub taken : TakesAll Takes (Some (record { options = o; stack = []; written = [] })) (begun_calls begun) now
   pub sound : sound_of begun
@@ -65,7 +65,7 @@ pub record BegunValue (o : Options) (now : Option Writing) (stage : Stage) (arou
   pub is_around : around ≡ around_of begun
 
 -- Memory ran out, or a value is begun so.
-abbrev pub IsBegun : Options → Option Writing → Stage → List Stage → Type 0
+abbrev pub IsBegun : Options → Option Writing → Due → List Due → Type 0
 IsBegun o now stage around = ∥ (now ≡ None) ⊎ BegunValue o now stage around ∥₁
 
 -- A tree of Rust's is written by this scalar alone. A text that is owned is none, since it is written as a borrowed one.

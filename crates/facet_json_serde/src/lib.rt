@@ -4,6 +4,7 @@
 //! Which value is read is promised of no derived type: `facet_json::Facet` is the way with that theorem.
 #![tactic(auto)]
 
+mod due;
 mod error;
 mod fault;
 mod format;
@@ -12,7 +13,6 @@ mod json;
 mod one_event;
 mod one_value;
 mod reading;
-mod stage;
 mod streams;
 mod writer;
 mod writing;

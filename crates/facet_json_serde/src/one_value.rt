@@ -6,8 +6,8 @@ ghost use Rattle.facet_format.specs.Views.{scalar_value_of};
 ghost use Rattle.facet_json_serializer.specs.OptionsViews.{options_of};
 ghost use Rattle.facet_json_serde.specs.OneValue.{IsBegun, IsTextOfTree, IsTree};
 
+use crate::due::Due;
 use crate::fault::Refusal;
-use crate::stage::Stage;
 use facet_format::{FormatSerializer, ScalarValue};
 use facet_json_serializer::{JsonSerializer, SerializeOptions};
 use std::alloc::Global;
@@ -17,8 +17,8 @@ use std::alloc::Global;
 pub(crate) struct OneValue<'i> {
     options: SerializeOptions<'i>,
     calls: JsonSerializer<'i>,
-    stage: Stage,
-    around: Vec<Stage>,
+    stage: Due,
+    around: Vec<Due>,
     ghost begun: { IsBegun (options_of options) calls stage around.items },
 }
 
@@ -28,7 +28,7 @@ impl<'i> OneValue<'i> {
         OneValue {
             options,
             calls: JsonSerializer::with_options(alloc, options),
-            stage: Stage::Value,
+            stage: Due::Value,
             around: Vec::new(alloc),
         }
     }
@@ -70,12 +70,12 @@ impl<'i> OneValue<'i> {
     /// Writes a key.
     #[inline(always)]
     pub(crate) fn key(&mut self, key: &str) -> Result<(), Refusal> {
-        let Stage::Key = self.stage else {
+        let Due::Key = self.stage else {
             return Err(Refusal::NotOneValue);
         };
         match self.calls.field_key(key) {
             Ok(()) => {
-                self.stage = Stage::Named;
+                self.stage = Due::Named;
                 Ok(())
             }
             Err(_) => Err(Refusal::OutOfMemory),
@@ -94,7 +94,7 @@ impl<'i> OneValue<'i> {
         match self.calls.begin_seq() {
             Ok(()) => {
                 self.around.push_reserved(self.stage);
-                self.stage = Stage::Item;
+                self.stage = Due::Item;
                 Ok(())
             }
             Err(_) => Err(Refusal::OutOfMemory),
@@ -113,7 +113,7 @@ impl<'i> OneValue<'i> {
         match self.calls.begin_struct() {
             Ok(()) => {
                 self.around.push_reserved(self.stage);
-                self.stage = Stage::Key;
+                self.stage = Due::Key;
                 Ok(())
             }
             Err(_) => Err(Refusal::OutOfMemory),
@@ -123,12 +123,12 @@ impl<'i> OneValue<'i> {
     /// Ends the innermost list.
     #[inline(always)]
     pub(crate) fn end_list(&mut self) -> Result<(), Refusal> {
-        let Stage::Item = self.stage else {
+        let Due::Item = self.stage else {
             return Err(Refusal::NotOneValue);
         };
         match self.calls.end_seq() {
             Ok(()) => {
-                let outer = self.around.pop().unwrap_or(Stage::Value);
+                let outer = self.around.pop().unwrap_or(Due::Value);
                 self.stage = outer.after_value();
                 Ok(())
             }
@@ -139,12 +139,12 @@ impl<'i> OneValue<'i> {
     /// Ends the innermost struct.
     #[inline(always)]
     pub(crate) fn end_struct(&mut self) -> Result<(), Refusal> {
-        let Stage::Key = self.stage else {
+        let Due::Key = self.stage else {
             return Err(Refusal::NotOneValue);
         };
         match self.calls.end_struct() {
             Ok(()) => {
-                let outer = self.around.pop().unwrap_or(Stage::Value);
+                let outer = self.around.pop().unwrap_or(Due::Value);
                 self.stage = outer.after_value();
                 Ok(())
             }
@@ -166,7 +166,7 @@ impl<'i> OneValue<'i> {
         ensures { IfOk result (λ v. IsTextOfTree (options_of self.entry.options) v.items) }
     {
         let OneValue { calls, stage, .. } = self;
-        let Stage::Whole = stage else {
+        let Due::Whole = stage else {
             return Err(Refusal::NotOneValue);
         };
         match calls.finish() {

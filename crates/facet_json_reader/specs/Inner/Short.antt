@@ -1,7 +1,7 @@
 -- Numbers that allocate nothing: what is told of one is its value where it is whole, and that it is a decimal else.
-use Rattle.std.specs.Prelude.{◌≡◌, ◌+◌, ◌≤◌, ℕ, true, List, length, Option, Some, None, drop, slice_range}
+use Rattle.std.specs.Prelude.{◌≡◌, ◌+◌, ◌≤◌, ℕ, suc, true, List, length, Option, Some, None, drop, slice_range}
 use Rattle.facet_format.specs.Number.{float}
-use Rattle.facet_format.specs.NumberParts.{is_number}
+use Rattle.facet_format.specs.NumberParts.{digits_len, fraction_len, exponent_len, is_number}
 use Rattle.facet_format.specs.Span.{span_at}
 use Rattle.facet_json_token.specs.Cut.{cut_here, token_at}
 use Rattle.facet_json_token.specs.Gap.{Mode}
@@ -17,6 +17,15 @@ pub record IsDecimalThere (buffer : List ℕ) (at len : ℕ) : Type 0 where
   pub cut : (mode : Mode) → cut_here mode at (drop at buffer) ≡ token_at (number at (at + len) float) at len
   pub decimal : is_number (slice_range buffer at (at + len)) float ≡ true
   pub within : at + len ≤ length buffer
+
+-- The bytes begin with digits, a dot and digits, so many bytes in all, and no exponent is after them.
+pub record IsPointed (bytes : List ℕ) (len : ℕ) : Type 0 where
+  pub digits : ℕ
+  pub more : ℕ
+  pub whole : digits ≡ digits_len bytes
+  pub fraction : suc more ≡ fraction_len (drop digits bytes)
+  pub no_exponent : exponent_len (drop (digits + suc more) bytes) ≡ 0
+  pub all : len ≡ digits + suc more
 
 -- At this offset stands a number of this length, of which that is told.
 abbrev pub IsShortNumber : List ℕ → ℕ → ℕ → Option Whole → Type 0

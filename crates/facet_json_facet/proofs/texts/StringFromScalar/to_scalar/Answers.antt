@@ -2,7 +2,7 @@ use Rattle.std.proofs.Common.{sym, ap}
 use Rattle.std.proofs.lemmas.Str.{is_utf8-from_IsUtf8, IsUtf8-string_bytes}
 use Rattle.facet_json_grammar.specs.Tree.{text}
 use Rattle.facet_json_facet.proofs.ScalarsOfRust.{text-of_rust}
-use Rattle.facet_json_facet.proofs.texts.StringLeaf.to_scalar.Goals as goal
+use Rattle.facet_json_facet.proofs.texts.StringFromScalar.to_scalar.Goals as goal
 
 pub returns-clause-tree : goal.returns-clause-tree
 returns-clause-tree c = ap text (sym c.as_str.ensures.value)

@@ -4,7 +4,7 @@ use Rattle.std.proofs.lemmas.Int.{to_z-of_z}
 use Rattle.facet_json_grammar.specs.Tree.{i128}
 use Rattle.facet_json_core.proofs.Meaning.Leaves.WideNumbers.{wide-within}
 use Rattle.facet_json_facet.proofs.ScalarsOfRust.{i128-of_rust}
-use Rattle.facet_json_facet.proofs.wide.I128Leaf.to_scalar.Goals as goal
+use Rattle.facet_json_facet.proofs.wide.I128FromScalar.to_scalar.Goals as goal
 
 pub returns-clause-tree : goal.returns-clause-tree
 returns-clause-tree c =

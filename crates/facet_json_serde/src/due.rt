@@ -5,7 +5,7 @@ ghost use Rattle.facet_json_serde.specs.OneValue.{takes_value, stage_after_value
 
 /// What may come next, in the innermost container that is open.
 #[derive(Clone, Copy)]
-pub(crate) enum Stage {
+pub(crate) enum Due {
     /// The value itself.
     Value,
     /// Nothing: the value is whole.
@@ -18,27 +18,27 @@ pub(crate) enum Stage {
     Named,
 }
 
-impl Stage {
+impl Due {
     /// Whether a value may come.
     #[inline(always)]
     pub(crate) fn takes_value(self) -> bool
         ensures { result ≡ takes_value self }
     {
         match self {
-            Stage::Value | Stage::Item | Stage::Named => true,
-            Stage::Whole | Stage::Key => false,
+            Due::Value | Due::Item | Due::Named => true,
+            Due::Whole | Due::Key => false,
         }
     }
 
     /// What may come once a value has come.
     #[inline(always)]
-    pub(crate) fn after_value(self) -> Stage
+    pub(crate) fn after_value(self) -> Due
         ensures { result ≡ stage_after_value self }
     {
         match self {
-            Stage::Value | Stage::Whole => Stage::Whole,
-            Stage::Item => Stage::Item,
-            Stage::Key | Stage::Named => Stage::Key,
+            Due::Value | Due::Whole => Due::Whole,
+            Due::Item => Due::Item,
+            Due::Key | Due::Named => Due::Key,
         }
     }
 }
