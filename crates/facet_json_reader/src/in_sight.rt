@@ -1,5 +1,5 @@
-//! Events consumed one after another, as long as a few bytes decide each of them. No event is made of them, where the reader is stands in locals
-//! meanwhile, and the language is known where this is compiled.
+//! Events consumed one after another, as long as a few bytes decide each of them. No event is made of them, where the reader is stands in
+//! locals meanwhile, and the language is known where this is compiled.
 
 ghost use Rattle.std.specs.Prelude.{◌≡◌, ◌≤◌, ◌<◌, ◌+◌, ◌∷◌, ℕ, true, false, List, Some, length, slice_get, IfNone, IfSome};
 ghost use Rattle.facet_format.specs.Event.{ContainerKind as SpecContainer, Scalar, object, array};
@@ -89,7 +89,8 @@ pub(crate) struct Front {
 }
 
 impl Reader {
-    /// Consumes events as long as a few bytes decide each of them. It allocates for open containers alone, and without memory goes no further.
+    /// Consumes events as long as a few bytes decide each of them. It allocates for open containers alone, and where there is no memory for
+    /// one, it goes no further.
     pub fn pass_in_sight(&mut self, input: &[u8], language: Language)
         requires { stop (span_of self.old.last) ≤ length input.now }
         ensures { PassesSeveral input.now (language_of language) self.old self.new }
