@@ -8,6 +8,7 @@ ghost use Rattle.facet_format.specs.Span.{Span as SpecSpan, stop};
 ghost use Rattle.facet_format.specs.Views.{refusal_of, event_kind_of, scalar_value_of, span_of};
 ghost use Rattle.facet_json_document.specs.Inner.Held.{FindsHeld};
 ghost use Rattle.std.specs.Option.{unwrap_or};
+ghost use Rattle.std.specs.Vec.{vec_len, vec_capacity};
 ghost use Rattle.facet_format.specs.Event.{bytes_of};
 ghost use Rattle.facet_format.specs.HeldText.{text_of};
 ghost use Rattle.facet_format.specs.declared.event.ScalarValue.{ScalarValue as RustScalar};
@@ -34,6 +35,9 @@ use facet_format::{
 use facet_json_parser::JsonParser;
 use std::alloc::{AllocError, Global};
 use std::borrow::CowStr;
+
+/// So many nodes make no long document.
+const FEW: usize = 512;
 
 /// The nodes of all events, of whose containers no more than `depth` stand within one another, where there is such a limit.
 pub(crate) fn build<'i, 't>(
@@ -240,8 +244,25 @@ impl<'i> Built<'i> {
             (built_view self.new ≡ also (node_view self.old.input.now self.old.held.items node.entry) (built_view self.old)) }
         ensures room { self.new.room ≡ self.old.room }
     {
-        self.nodes.push(node)?;
+        if self.nodes.len() == self.nodes.capacity() {
+            self.make_room()?;
+        }
+        self.nodes.push_reserved(node);
         Ok(())
+    }
+
+    /// Makes room for another node; where many stand there already, for as many as the whole input may have, most likely.
+    #[inline(never)]
+    fn make_room(&mut self) -> Result<(), AllocError>
+        ensures room { OnOk result (vec_len self.new.nodes < vec_capacity self.new.nodes) }
+        ensures same { built_view self.new ≡ built_view self.old }
+        ensures held { self.new.held ≡ self.old.held }
+        ensures left { self.new.room ≡ self.old.room }
+    {
+        if self.nodes.len() >= FEW && self.nodes.reserve(self.input.len() / 4 + 1).is_ok() {
+            return Ok(());
+        }
+        self.nodes.reserve(1)
     }
 }
 
