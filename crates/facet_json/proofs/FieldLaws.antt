@@ -9,7 +9,7 @@ use Rattle.facet_json_core.specs.Meaning.Optional.{optional}
 use Rattle.facet_json_core.proofs.Meaning.Leaves.LeafLaws.{same-means}
 use Rattle.facet_json_core.proofs.Meaning.Objects.MapLaws.{and_then-same}
 use Rattle.facet_json_core.proofs.Meaning.Nullable.OptionalLaws.{optional-same}
-use Rattle.facet_json_fields.specs.Fields.{Reading, Table, none, need, maybe, seen_by, begins_with, other_names, field_step, after_members, fields_of}
+use Rattle.facet_json.specs.Fields.{Reading, Table, none, need, maybe, seen_by, begins_with, other_names, field_step, after_members, fields_of}
 
 -- What a member adds is told by its text.
 pub record SameSteps {V : Type 0} (t : Table V) : Type 0 where

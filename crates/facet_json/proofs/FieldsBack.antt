@@ -6,7 +6,7 @@ use Rattle.std.proofs.lemmas.Slice.Eq.{bytes_eq-Decides}
 use Rattle.facet_json_token.specs.Token.{Token}
 use Rattle.facet_json_grammar.specs.Meaning.{text_in_tree, meaning}
 use Rattle.facet_json_grammar.specs.Node.{Node, Members, no_members, member}
-use Rattle.facet_json_fields.specs.Fields.{Reading, Table, table, none, seen_by, field_step, after_members}
+use Rattle.facet_json.specs.Fields.{Reading, Table, table, none, seen_by, field_step, after_members}
 use Rattle.facet_json.specs.Shapes.{lacks}
 
 -- The members have these keys, one after the other.

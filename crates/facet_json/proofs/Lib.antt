@@ -1,10 +1,14 @@
 pub mod BeyondCounted
 pub mod ComesBack
+pub mod FieldCells
 pub mod FieldLaws
+pub mod FieldSteps
 pub mod FieldsBack
 pub mod ItemsPassed
 pub mod LinePiecesRead
 pub mod LinesRead
+pub mod MemberCalls
+pub mod NamesCompared
 pub mod NestedTokens
 pub mod NestedValues
 pub mod NodesPointed

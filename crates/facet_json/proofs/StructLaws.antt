@@ -13,7 +13,7 @@ use Rattle.facet_json_grammar.specs.AsRead.{RawParts, RawMembers, IsDocumentText
 use Rattle.facet_json_grammar.proofs.Rfc.Encoded.{ascii}
 use Rattle.facet_json_core.proofs.Meaning.TypeLaws.{nullable-laws}
 use Rattle.facet_json_core.proofs.Meaning.Nodes.TextsWithin.{ReadsAnywhere, reads-anywhere, reads-alone, text-depth}
-use Rattle.facet_json_fields.specs.Fields.{Table, table, need, maybe, field_step, need_ends, maybe_ends, fields_of}
+use Rattle.facet_json.specs.Fields.{Table, table, need, maybe, field_step, need_ends, maybe_ends, fields_of}
 use Rattle.facet_json.specs.Shapes.{Shape, ShapeLaws, nullable, FieldList, no_more, needs, may_have, struct_of, is_text, lacks, are_names}
 use Rattle.facet_json.proofs.FieldLaws.{SameSteps, none-same, need-same, maybe-same, fields-same}
 use Rattle.facet_json.proofs.FieldsBack.{FieldsAre, none-are, field-are}

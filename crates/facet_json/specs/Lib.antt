@@ -28,7 +28,7 @@ pub use Rattle.facet_format.specs.Event
 pub use Rattle.facet_json_grammar.specs.EventLaws
 pub use Rattle.facet_json_token.specs.Fault
 pub use Rattle.facet_json_token.specs.Faults
-pub use Rattle.facet_json_fields.specs.Fields
+pub mod Fields
 pub use Rattle.facet_json_core.specs.Finding
 pub use Rattle.facet_format.specs.Laws as FormatLaws
 pub use Rattle.facet_format.specs.Views as FormatViews
@@ -141,4 +141,4 @@ pub use Rattle.facet_json_tree.specs.Views
 pub use Rattle.facet_json_grammar.specs.Walk
 pub use Rattle.facet_json_grammar.specs.Within
 pub use Rattle.facet_json_tree.specs.Write
-pub use Rattle.facet_json_fields.specs.Written
+pub mod Written

@@ -7,7 +7,7 @@ use Rattle.std.specs.Str.{bytes_eq, is_utf8}
 use Rattle.facet_json_grammar.specs.Tree.{pairs, Pairs, no_pairs, pair}
 pub use Rattle.facet_json_core.specs.Meaning.Shapes.{Shape, ShapeLaws, shape, nullable}
 use Rattle.facet_json_core.specs.Meaning.Optional.{optional_tree, OptionalReadable}
-use Rattle.facet_json_fields.specs.Fields.{Table, none, need, maybe, fields_of}
+use Rattle.facet_json.specs.Fields.{Table, none, need, maybe, fields_of}
 
 -- ---- a struct
 

@@ -9,9 +9,11 @@
 #![tactic(auto)]
 
 mod documents;
+mod fields;
 mod find_error;
 pub mod float;
 pub mod laws;
+mod lent;
 mod line_pieces;
 mod lines;
 pub mod made;
@@ -42,7 +44,6 @@ pub use facet_json_facet::{
     from_slice_jsonc, from_slice_prefix, from_slice_strict, from_str, from_str_borrowed,
     from_str_borrowed_jsonc, from_str_jsonc, from_str_prefix, from_str_strict,
 };
-pub use facet_json_fields::{Done, Fields, LentFields, Maybe, Need, read_fields, write_fields};
 pub use facet_json_parser::JsonParser;
 pub use facet_json_reader::{Language, MaterializedToken, TokenKind};
 pub use facet_json_serializer::{
@@ -53,6 +54,8 @@ pub use facet_json_tree::{
     tree_from_slice_jsonc, tree_from_slice_strict, tree_from_slice_within,
     tree_from_slice_within_jsonc, tree_from_slice_within_strict, write_tree,
 };
+pub use fields::{Done, Fields, Maybe, Need, read_fields};
+pub use lent::{LentFields, write_fields};
 pub use lines::{Line, LineError, Lines};
 pub use options::{ReadOptions, from_slice_with_options, from_str_with_options};
 pub use writers::{to_writer_std, to_writer_std_pretty, to_writer_std_with_options};

@@ -7,7 +7,7 @@ ghost use Rattle.facet_json_document.specs.Inner.Layout.{IsLaidOut, BeginsPiece,
 
 use crate::pieces::{PieceAt, Sort, closes_next, find, goes_on_in_line};
 use crate::spacing::{Breaks, Indent, Space, push_space, space_between};
-use facet_json_escape::Sink;
+use facet_json_serializer::Sink;
 use facet_json_token::Mode;
 use std::alloc::{AllocError, Global};
 

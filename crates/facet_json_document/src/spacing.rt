@@ -4,7 +4,7 @@ ghost use Rattle.std.specs.Prelude.{◌≡◌, ◌++◌, true, OnOk};
 ghost use Rattle.facet_json_document.specs.Inner.Layout.{IsIndented, IsSpaced, keeps_apart};
 
 use crate::pieces::Sort;
-use facet_json_escape::Sink;
+use facet_json_serializer::Sink;
 use std::alloc::AllocError;
 
 /// How the lines of a text are indented, once for each container around them.

@@ -2,7 +2,7 @@
 
 ghost use Rattle.std.specs.Prelude.{◌≡◌, ◌++◌, OnOk};
 
-use facet_json_escape::Sink;
+use crate::sink::Sink;
 use std::alloc::AllocError;
 
 /// Appends bytes verbatim.

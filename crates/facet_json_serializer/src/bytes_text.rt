@@ -8,7 +8,8 @@ ghost use Rattle.facet_json_serializer.specs.OptionsViews.{bytes_format_of};
 
 use crate::append::{push_bytes, push_number};
 use crate::options::{BytesFormat, HexBytesOptions, push_separator};
-use facet_json_escape::{Sink, hex_digit};
+use crate::quote::hex_digit;
+use crate::sink::Sink;
 use std::alloc::AllocError;
 
 /// Appends bytes in this format.

@@ -7,7 +7,8 @@ ghost use Rattle.facet_format.specs.Bytes.{line_feed};
 ghost use Rattle.facet_json_grammar.specs.Quoted.{quoted};
 
 use crate::append::push_bytes;
-use facet_json_escape::{Sink, push_framed_here, push_quoted};
+use crate::quote::{push_framed_here, push_quoted};
+use crate::sink::Sink;
 use std::alloc::AllocError;
 
 /// Hexadecimal text of bytes, of which only some at either end stand where there are more than a limit.

@@ -11,8 +11,9 @@ ghost use Rattle.facet_json_serializer.specs.OptionsViews.{options_of};
 use crate::append::{push_bytes, push_number};
 use crate::bytes_text::push_bytes_text;
 use crate::options::SerializeOptions;
+use crate::quote::push_quoted;
+use crate::sink::Sink;
 use facet_format::ScalarValue;
-use facet_json_escape::{Sink, push_quoted};
 use std::alloc::AllocError;
 
 /// Appends the text of a value.

@@ -1,4 +1,0 @@
-mod DecimalLengths
-mod Escapes
-mod Places
-mod PlainTexts

@@ -1,6 +1,0 @@
-use Rattle.std.proofs.Common.{arith}
-use Rattle.facet_json_escape.proofs.PlainTexts.{plain_from_lanes}
-use Rattle.facet_json_escape.proofs.quote.plain_16.Goals as goal
-
-pub returns : goal.returns
-returns c = plain_from_lanes c.args.text.now c.args.at 16 c.requires (omega arith) c.type_inv.text

@@ -1,5 +1,0 @@
-use Rattle.facet_json_escape.specs.Inner.Window.{PlainBetween}
-use Rattle.facet_json_escape.proofs.quote.plain_few.Given as goal
-
-abbrev pub invariant-loop-byte : goal.invariant-loop-byte
-invariant-loop-byte l = PlainBetween l.text 0 l.byte-index

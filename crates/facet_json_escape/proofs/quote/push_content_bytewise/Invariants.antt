@@ -1,5 +1,0 @@
-use Rattle.facet_json_escape.proofs.Escapes.{IsWritten}
-use Rattle.facet_json_escape.proofs.quote.push_content_bytewise.Given as goal
-
-abbrev pub invariant-loop-i : goal.invariant-loop-i
-invariant-loop-i l = IsWritten l.bytes l.initial.out l.out l.start l.i

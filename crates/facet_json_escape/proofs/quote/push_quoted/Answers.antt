@@ -1,5 +1,0 @@
-use Rattle.std.proofs.Common.{rules}
-use Rattle.facet_json_escape.proofs.quote.push_quoted.Goals as goal
-
-pub returns : goal.returns
-returns c = search rules

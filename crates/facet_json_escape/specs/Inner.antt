@@ -1,3 +1,0 @@
--- Definitions that serve private contracts alone.
-pub mod Places
-pub mod Window

@@ -1,4 +1,0 @@
-pub mod FieldCells
-pub mod FieldSteps
-pub mod MemberCalls
-pub mod NamesCompared

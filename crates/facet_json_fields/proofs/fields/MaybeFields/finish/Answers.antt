@@ -1,5 +1,0 @@
-use Rattle.std.proofs.Common.{rules}
-use Rattle.facet_json_fields.proofs.fields.MaybeFields.finish.Goals as goal
-
-pub returns-clause-full : goal.returns-clause-full
-returns-clause-full c = search rules
