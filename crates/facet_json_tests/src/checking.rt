@@ -1,6 +1,6 @@
 //! Inputs of which nothing is kept, or a document: whether they have one, in each language, or what is refused.
 
-use crate::expecting::expect_that;
+use crate::expecting::expect_of;
 use facet_format::DeserializeError;
 use facet_json::{Document, check, check_jsonc, check_strict};
 use std::alloc::Global;
@@ -54,7 +54,7 @@ fn are_parsed(alloc: Global, row: &Row) -> bool {
 fn what_is_no_document_is_refused(rt: HostRuntime) {
     let alloc = rt.alloc();
     for row in &INPUTS {
-        expect_that(
+        expect_of(
             &rt,
             are_checked(alloc, row) && are_parsed(alloc, row),
             row.0,

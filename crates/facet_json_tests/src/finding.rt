@@ -1,6 +1,6 @@
 //! A search for a key among an object's members (RFC 8259, section 4).
 
-use crate::expecting::{expect_of, expect_that};
+use crate::expecting::expect_of;
 use facet_format::DeserializeError;
 use facet_json::pass_end;
 use facet_json::steps::{begin_object, find_key};
@@ -67,7 +67,7 @@ static FOUND: [(&str, &[(&str, Option<u64>)]); 12] = [
 #[test]
 fn the_first_member_of_a_key_is_found(rt: HostRuntime) {
     for &(input, found) in &FOUND {
-        expect_that(&rt, are_found(rt.alloc(), input, found), input);
+        expect_of(&rt, are_found(rt.alloc(), input, found), input);
     }
 }
 
@@ -109,11 +109,6 @@ fn is_lacking(alloc: Global, input: &str, name: &str, is_cut: bool) -> bool {
 #[test]
 fn a_key_that_does_not_come_is_not_found(rt: HostRuntime) {
     for &(input, name, is_cut) in &LACKING {
-        expect_of(
-            &rt,
-            is_lacking(rt.alloc(), input, name, is_cut),
-            name,
-            input,
-        );
+        expect_of(&rt, is_lacking(rt.alloc(), input, name, is_cut), input);
     }
 }

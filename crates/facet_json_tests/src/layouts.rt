@@ -1,6 +1,6 @@
 //! Texts laid out anew: worked rows, what is refused, and that a text laid out stays as it is.
 
-use crate::expecting::expect_that;
+use crate::expecting::expect_of;
 use crate::typed::refusal;
 use facet_format::{DeserializeError, DeserializeErrorKind, Span};
 use facet_json::scanner::Mode;
@@ -71,7 +71,7 @@ fn expect_laid_out(rt: &impl Abort, alloc: Global, rows: &[Row]) {
     for &(text, wanted) in rows {
         let wanted = wanted.as_bytes();
         let holds = is_formatted(alloc, text.as_bytes(), wanted);
-        expect_that(rt, holds && is_formatted(alloc, wanted, wanted), text);
+        expect_of(rt, holds && is_formatted(alloc, wanted, wanted), text);
     }
 }
 
@@ -97,7 +97,7 @@ fn texts_are_laid_out(rt: HostRuntime) {
     expect_laid_out(&rt, alloc, &IN_OWN_LINES);
     expect_laid_out(&rt, alloc, &AT_LINE_ENDS);
     for &(indent, wanted) in &INDENTED {
-        expect_that(&rt, is_indented(alloc, indent, wanted), wanted);
+        expect_of(&rt, is_indented(alloc, indent, wanted), wanted);
     }
 }
 
@@ -156,10 +156,10 @@ fn is_refused(alloc: Global, row: &Refused, is_strict: bool) -> bool {
 #[test]
 fn what_is_no_document_alone_is_refused(rt: HostRuntime) {
     for row in &REFUSED {
-        expect_that(&rt, is_refused(rt.alloc(), row, false), row.0);
+        expect_of(&rt, is_refused(rt.alloc(), row, false), row.0);
     }
     for row in &REFUSED_STRICTLY {
-        expect_that(&rt, is_refused(rt.alloc(), row, true), row.0);
+        expect_of(&rt, is_refused(rt.alloc(), row, true), row.0);
     }
 }
 

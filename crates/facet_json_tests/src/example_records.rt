@@ -1,6 +1,6 @@
 //! Structs: read, written, and read again.
 
-use crate::expecting::expect_that;
+use crate::expecting::expect_of;
 use crate::typed::{is_read_as, refusal};
 use facet_format::{DeserializeErrorKind, Span};
 use facet_json_examples::records::{person_in, raw_response};
@@ -21,7 +21,7 @@ static PERSONS: [(&str, &str); 2] = [
 fn persons_are_read_and_written(rt: HostRuntime) {
     let alloc = rt.alloc();
     for &(input, text) in &PERSONS {
-        expect_that(
+        expect_of(
             &rt,
             is_read_as(alloc, person_in(alloc, input.as_bytes()), text),
             input,

@@ -1,6 +1,6 @@
 //! Documents: read and written, and the text read and written again.
 
-use crate::expecting::expect_that;
+use crate::expecting::expect_of;
 use facet_json_examples::rewriting::rewritten;
 use std::alloc::Global;
 
@@ -27,7 +27,7 @@ fn documents_are_rewritten(rt: HostRuntime) {
     let alloc = rt.alloc();
     for &(document, text) in &REWRITTEN {
         let holds = is_rewritten(alloc, document, text) && is_rewritten(alloc, text, text);
-        expect_that(&rt, holds, document);
+        expect_of(&rt, holds, document);
     }
     assert!(rt; rewritten(alloc, b"[1").is_err());
 }

@@ -62,7 +62,7 @@ const NAMES: &str = r#"{"name":"Ada","Ada":{"none":[],"empty":{}},"name":"twice"
 const TREES: &str = r#"{"ids":[1,2,3,4,5],"again":[1,2,3,4,5],"perhaps":[1,null,[null]]}"#;
 
 /// Fails where a tree is not the one of this text.
-fn expect_of(rt: &impl Abort, alloc: Global, made: Result<Tree, AllocError>, text: &str) {
+fn expect_made(rt: &impl Abort, alloc: Global, made: Result<Tree, AllocError>, text: &str) {
     let tree = made.expect(rt, "memory");
     assert!(rt; is_of(alloc, &tree, text) == Some(true), "{text}");
 }
@@ -70,12 +70,12 @@ fn expect_of(rt: &impl Abort, alloc: Global, made: Result<Tree, AllocError>, tex
 #[test]
 fn trees_are_written_down(rt: HostRuntime) {
     let alloc = rt.alloc();
-    expect_of(&rt, alloc, of_literals(alloc), LITERALS);
-    expect_of(&rt, alloc, of_names(alloc, "Ada"), NAMES);
+    expect_made(&rt, alloc, of_literals(alloc), LITERALS);
+    expect_made(&rt, alloc, of_names(alloc, "Ada"), NAMES);
     let copied = ids(alloc).expect(&rt, "memory");
     let moved = ids(alloc).expect(&rt, "memory");
     let perhaps = nullable(alloc).expect(&rt, "memory");
-    expect_of(&rt, alloc, of_trees(alloc, moved, &copied, perhaps), TREES);
-    expect_of(&rt, alloc, seven(alloc), "7");
-    expect_of(&rt, alloc, tree!(in alloc; null), "null");
+    expect_made(&rt, alloc, of_trees(alloc, moved, &copied, perhaps), TREES);
+    expect_made(&rt, alloc, seven(alloc), "7");
+    expect_made(&rt, alloc, tree!(in alloc; null), "null");
 }

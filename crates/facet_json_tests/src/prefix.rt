@@ -1,6 +1,6 @@
 //! Values with where their documents end, and documents one after another.
 
-use crate::expecting::expect_that;
+use crate::expecting::expect_of;
 use facet_format::Span;
 use facet_json::{Documents, from_slice_prefix, from_str_prefix};
 use std::alloc::Global;
@@ -60,10 +60,10 @@ fn behind<'i>(alloc: Global, input: &'i [u8], texts: &[&str]) -> Option<&'i [u8]
 fn values_end_where_they_do(rt: HostRuntime) {
     let alloc = rt.alloc();
     for &(input, number, end) in &NUMBERS {
-        expect_that(&rt, is_read(alloc, input, number, end), input);
+        expect_of(&rt, is_read(alloc, input, number, end), input);
     }
     for &(input, end) in &LISTS {
-        expect_that(&rt, list_end(alloc, input) == Some(end), input);
+        expect_of(&rt, list_end(alloc, input) == Some(end), input);
     }
 }
 
@@ -107,7 +107,7 @@ fn is_summed(alloc: Global, row: &(&str, u64, usize, usize, Option<Span>)) -> bo
 fn documents_stand_one_after_another(rt: HostRuntime) {
     let alloc = rt.alloc();
     for row in &STREAMS {
-        expect_that(&rt, is_summed(alloc, row), row.0);
+        expect_of(&rt, is_summed(alloc, row), row.0);
     }
     let texts = "\"a\"\"\" \"b\\u0063\"\n\"d\"".as_bytes();
     assert!(rt; behind(alloc, texts, &["a", "", "bc", "d"]) == Some(b""));

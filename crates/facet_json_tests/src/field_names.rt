@@ -1,6 +1,6 @@
 //! To which field of a struct a member goes: by its key and the table of names (RFC 8259, section 4).
 
-use crate::expecting::expect_that;
+use crate::expecting::expect_of;
 use facet_format::DeserializeError;
 use facet_json::{Done, Maybe, Need, read_fields};
 use facet_json_parser::JsonParser;
@@ -106,9 +106,9 @@ fn is_first_of_two(alloc: Global, input: &str, number: u8) -> bool {
 fn a_member_goes_to_the_field_of_its_name(rt: HostRuntime) {
     let alloc = rt.alloc();
     for &(input, wanted) in &THREE {
-        expect_that(&rt, are_three(alloc, input, wanted), input);
+        expect_of(&rt, are_three(alloc, input, wanted), input);
     }
     for &(input, number) in &REPEATED {
-        expect_that(&rt, is_first_of_two(alloc, input, number), input);
+        expect_of(&rt, is_first_of_two(alloc, input, number), input);
     }
 }

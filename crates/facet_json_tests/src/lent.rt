@@ -1,6 +1,6 @@
 //! Structs whose texts the input lends.
 
-use crate::expecting::expect_that;
+use crate::expecting::expect_of;
 use crate::typed::is_written;
 use facet_format::DeserializeError;
 use facet_json::{Done, Need, read_fields, write_fields};
@@ -54,5 +54,5 @@ fn texts_of_structs_are_lent(rt: HostRuntime) {
     let alloc = rt.alloc();
     let text = "{\"label\": \"origin\", \"x\": 0, \"y\": 0}";
     let written = "{\"label\":\"origin\",\"x\":0,\"y\":0}";
-    expect_that(&rt, is_origin(alloc, text, "origin", written), text);
+    expect_of(&rt, is_origin(alloc, text, "origin", written), text);
 }

@@ -4,8 +4,9 @@
 //! memory runs out, the rows `marked read` of `facet_json_rows` say.
 
 use crate::documents::{is_of, is_written as writes_document, tree_at};
-use crate::expecting::expect_that;
+use crate::expecting::expect_of;
 use crate::finding::number_at;
+use crate::twice::but_once;
 use crate::typed::is_written;
 use facet_format::{DeserializeError, DeserializeErrorKind, FormatParser, ParseError};
 use facet_json::scanner::Mode;
@@ -85,11 +86,6 @@ fn finds(alloc: Global, search: &Search<'_>, by_pointer: bool) -> Option<bool> {
     }
 }
 
-/// Whether a call that was made twice gave its whole answer, but for one time at most in which memory ran out.
-fn but_once(first: Option<bool>, again: Option<bool>) -> bool {
-    first.unwrap_or(true) && again.unwrap_or(true) && (first.is_some() || again.is_some())
-}
-
 /// Fails where it does not, tried twice.
 fn expect_found(rt: &impl Abort, alloc: Global, searches: &[Search<'_>], by_pointer: bool) {
     for search in searches {
@@ -97,7 +93,7 @@ fn expect_found(rt: &impl Abort, alloc: Global, searches: &[Search<'_>], by_poin
             finds(alloc, search, by_pointer),
             finds(alloc, search, by_pointer),
         );
-        expect_that(rt, holds, search.0);
+        expect_of(rt, holds, search.0);
     }
 }
 
@@ -225,13 +221,13 @@ fn is_written_again(alloc: Global) -> Option<bool> {
 fn a_growth_is_refused_in_a_document(rt: HostRuntime) {
     let alloc = rt.alloc();
     let made = but_once(is_made(alloc), is_made(alloc));
-    expect_that(&rt, made, "a tree that is written down");
+    expect_of(&rt, made, "a tree that is written down");
     let laid_out = but_once(lays_out(alloc), lays_out(alloc));
-    expect_that(&rt, laid_out, "a layout");
+    expect_of(&rt, laid_out, "a layout");
     let in_nodes = but_once(is_in_nodes(alloc), is_in_nodes(alloc));
-    expect_that(&rt, in_nodes, "a document");
+    expect_of(&rt, in_nodes, "a document");
     let taken = but_once(is_taken(alloc), is_taken(alloc));
-    expect_that(&rt, taken, "a tree that is taken of a document");
+    expect_of(&rt, taken, "a tree that is taken of a document");
     let written = but_once(is_written_again(alloc), is_written_again(alloc));
-    expect_that(&rt, written, "a value that is written");
+    expect_of(&rt, written, "a value that is written");
 }

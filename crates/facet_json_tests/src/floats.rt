@@ -1,6 +1,6 @@
 //! Numbers with a fraction or an exponent as floats, and back (IEEE 754; RFC 8259, section 6).
 
-use crate::expecting::expect_that;
+use crate::expecting::expect_of;
 use facet_json::Decimal;
 use facet_json::float::{from_f64, to_f64};
 use std::alloc::Global;
@@ -50,10 +50,10 @@ static SHORTEST: [(f64, Option<&str>); 9] = [
 #[test]
 fn floats_and_numbers_are_each_others(rt: HostRuntime) {
     for &(text, float) in &NEAREST {
-        expect_that(&rt, float_of(text) == Some(float), text);
+        expect_of(&rt, float_of(text) == Some(float), text);
     }
     for &(float, text) in &SHORTEST {
         let holds = is_written(rt.alloc(), float, text);
-        expect_that(&rt, holds, text.unwrap_or("a float that is no number"));
+        expect_of(&rt, holds, text.unwrap_or("a float that is no number"));
     }
 }

@@ -1,6 +1,7 @@
 //! JSON lines: which bytes are the lines, which are refused, and that reading goes on after that, however the bytes come.
 
-use crate::expecting::expect_that;
+use crate::error_samples::is_displayed;
+use crate::expecting::expect_of;
 use crate::typed::is_text;
 use facet_format::Span;
 use facet_json::{Line, LineError, Lines, from_slice_borrowed};
@@ -183,7 +184,7 @@ fn lines_come_however_the_bytes_do(rt: HostRuntime) {
         let holds = come(alloc, row)
             && fail(alloc, row, ErrorKind::BrokenPipe, 1)
             && fail(alloc, row, ErrorKind::Interrupted, 0);
-        expect_that(&rt, holds, row.0);
+        expect_of(&rt, holds, row.0);
     }
 }
 
@@ -247,19 +248,11 @@ fn values_are_read_of_lines(rt: HostRuntime) {
     let alloc = rt.alloc();
     for &(input, sum, refused) in &SUMS {
         let read = summed(alloc, input.as_bytes()).ok();
-        expect_that(&rt, read == Some((sum, refused)), input);
+        expect_of(&rt, read == Some((sum, refused)), input);
     }
     let texts = "\"a\"\n\"b\" x";
-    expect_that(&rt, are_texts(alloc, texts, "a", "b"), texts);
-    expect_that(&rt, errors_in(alloc, LOG.as_bytes()).ok() == Some(2), LOG);
-}
-
-/// Whether the refusal's message begins so, and is no longer where `is_whole` says so.
-fn has_message(alloc: Global, refusal: LineError, text: &str, is_whole: bool) -> bool {
-    match format!(in alloc; "{refusal}") {
-        Ok(shown) => shown.starts_with(text) && (!is_whole || shown.len() == text.len()),
-        Err(_) => false,
-    }
+    expect_of(&rt, are_texts(alloc, texts, "a", "b"), texts);
+    expect_of(&rt, errors_in(alloc, LOG.as_bytes()).ok() == Some(2), LOG);
 }
 
 #[test]
@@ -267,8 +260,8 @@ fn refusals_have_a_message(rt: HostRuntime) {
     let alloc = rt.alloc();
     let long = LineError::TooLong { number: 12 };
     let failed = LineError::Io(io::Error::from(ErrorKind::BrokenPipe));
-    let holds = has_message(alloc, long, "line 12 is too long", true)
-        && has_message(alloc, LineError::Memory, "out of memory", true)
-        && has_message(alloc, failed, "I/O error: ", false);
+    let holds = is_displayed(alloc, &long, "line 12 is too long") == Some(true)
+        && is_displayed(alloc, &LineError::Memory, "out of memory") == Some(true)
+        && is_displayed(alloc, &failed, "I/O error: broken pipe") == Some(true);
     assert!(rt; holds);
 }

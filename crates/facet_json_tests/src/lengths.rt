@@ -1,6 +1,6 @@
 //! Values of each length around the widths that are read at once, and what only begins as one of them.
 
-use crate::expecting::expect_that;
+use crate::expecting::expect_of;
 use facet_format::DeserializeError;
 use facet_json::{from_str, from_str_borrowed};
 use std::alloc::Global;
@@ -76,10 +76,10 @@ fn values_of_each_length_are_read(rt: HostRuntime) {
     let alloc = rt.alloc();
     for len in 0..=40 {
         let text = TEXT.get(..len).unwrap_or("");
-        expect_that(&rt, is_listed(alloc, text) && is_lent(alloc, text), text);
+        expect_of(&rt, is_listed(alloc, text) && is_lent(alloc, text), text);
     }
     for len in 1..=18 {
         let digits = DIGITS.get(..len).unwrap_or("");
-        expect_that(&rt, is_number(alloc, digits), digits);
+        expect_of(&rt, is_number(alloc, digits), digits);
     }
 }

@@ -1,7 +1,7 @@
 //! Trees that are taken of a document of nodes, and values of one that are written by a serializer that the caller holds. What a document's
 //! values are, the rows of `facet_json_rows` say.
 
-use crate::expecting::expect_that;
+use crate::expecting::expect_of;
 use crate::typed;
 use facet_format::FormatSerializer;
 use facet_json::{
@@ -72,5 +72,5 @@ fn is_laid_out(alloc: Global, text: &str, wanted: &str) -> bool {
 fn a_value_is_laid_out(rt: HostRuntime) {
     let text = "{\"a\":[{\"b\":[1,{}]}]}";
     let wanted = "[\n  {\n    \"b\": [\n      1,\n      {}\n    ]\n  }\n]";
-    expect_that(&rt, is_laid_out(rt.alloc(), text, wanted), text);
+    expect_of(&rt, is_laid_out(rt.alloc(), text, wanted), text);
 }

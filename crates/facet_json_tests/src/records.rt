@@ -1,6 +1,6 @@
 //! Structs of two fields: they are read from objects by a table of their fields, and written call by call.
 
-use crate::expecting::expect_that;
+use crate::expecting::expect_of;
 use crate::typed::is_written;
 use facet_format::{DeserializeError, FormatSerializer};
 use facet_json::{Done, Need, read_fields};
@@ -31,7 +31,7 @@ fn is_point(alloc: Global, input: &str, across: i32, down: i32) -> bool {
 fn structs_are_read(rt: HostRuntime) {
     let alloc = rt.alloc();
     let point = "{\"x\": 10, \"y\": 20}";
-    expect_that(&rt, is_point(alloc, point, 10, 20), point);
+    expect_of(&rt, is_point(alloc, point, 10, 20), point);
 }
 
 /// Writes two fields.
@@ -66,20 +66,20 @@ fn is_pair<'de, A: Facet<'de>, B: Facet<'de>>(
 fn structs_are_written(rt: HostRuntime) {
     let alloc = rt.alloc();
     let text = "{\"name\":\"Alice\",\"age\":30}";
-    expect_that(
+    expect_of(
         &rt,
         is_pair(alloc, &["name", "age"], &"Alice", &30_u32, text),
         text,
     );
     let text = "{\"x\":10,\"y\":20}";
-    expect_that(
+    expect_of(
         &rt,
         is_pair(alloc, &["x", "y"], &10_i32, &20_i32, text),
         text,
     );
     let payload = RawJson::new("{\"nested\": [1, 2, 3], \"complex\": true}");
     let text = "{\"status\":200,\"data\":{\"nested\": [1, 2, 3], \"complex\": true}}";
-    expect_that(
+    expect_of(
         &rt,
         is_pair(alloc, &["status", "data"], &200_u32, &payload, text),
         text,

@@ -1,6 +1,6 @@
 //! Calls of a new parser: with ample memory each is answered, of a document and of what is none.
 
-use crate::expecting::expect_that;
+use crate::expecting::expect_of;
 use facet_json_core::{Answer, Call};
 use facet_json_examples::driving::{answers_of_both, answers_to};
 use std::alloc::Global;
@@ -53,6 +53,6 @@ fn events_come_and_then_the_end_or_a_refusal(rt: HostRuntime) {
     for &(input, events, end) in &ROWS {
         let wanted = Some((events, end));
         let holds = is_told(alloc, input, wanted) && is_told_twice(alloc, input, wanted);
-        expect_that(&rt, holds, input);
+        expect_of(&rt, holds, input);
     }
 }
