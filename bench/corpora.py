@@ -166,6 +166,16 @@ def one_account(chance, size):
     return compact([account(7)])
 
 
+def accounts_indented(chance, size):
+    """The ten thousand, printed with two spaces a level."""
+    return json.dumps([account(number) for number in range(10_000)], indent=2) + "\n"
+
+
+def accounts_reversed(chance, size):
+    """The ten thousand, the members of each in reverse order."""
+    return compact([dict(reversed(account(number).items())) for number in range(10_000)])
+
+
 def coordinate(chance, limit):
     """A decimal of at most six digits after its point, not below a thousandth."""
     return chance.choice([-1, 1]) * round(chance.uniform(0.001, limit), 6)
@@ -238,6 +248,8 @@ MADE = {
     "records.json": records,
     "accounts.json": accounts,
     "one-account.json": one_account,
+    "accounts-indented.json": accounts_indented,
+    "accounts-reversed.json": accounts_reversed,
     "points.json": points,
     "shapes.json": shapes,
     "outlines.json": outlines,

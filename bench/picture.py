@@ -24,8 +24,8 @@ WORKS = {
 # the works of the table
 LINES = ("typed", "typed-lent", "typed-text", "log", "skip", "events", "document", "check", "tree", "text", "fmt")
 SIDES = {"ours": "facet_json", "serde_json": "serde_json", "simdjson": "simdjson", "rapidjson": "RapidJSON"}
-# measured for one work alone, so it is no part of a mean
-LEFT_OUT = "one-account.json"
+# measured for one work alone, so they are no part of a mean
+LEFT_OUT = ("one-account.json", "accounts-indented.json", "accounts-reversed.json")
 
 WIDTH, LEFT, RIGHT, TOP, FOOT = 760, 150, 60, 64, 62
 BAR, GAP = 18, 20
@@ -52,7 +52,7 @@ def read_speeds(path):
     speeds = {}
     with open(path, encoding="utf-8", newline="") as file:
         for line in csv.DictReader(file):
-            if line["input"] != LEFT_OUT and line["side"] in SIDES:
+            if line["input"] not in LEFT_OUT and line["side"] in SIDES:
                 by_input = speeds.setdefault(line["work"], {}).setdefault(line["side"], {})
                 by_input[line["input"]] = int(line["bytes"]) / int(line["nanoseconds"]) * 1e3
     return speeds
