@@ -1,5 +1,5 @@
 -- Events that are passed one after another, up to the end or a refusal.
-use Rattle.std.proofs.Common.{◌≡◌, ◌≤◌, ◌⊎◌, inl, inr, Bool, true, false, List, [], ◌∷◌, ◌++◌, None, Some, refl, sym, ap, ◌∙◌, subst, arith}
+use Rattle.std.proofs.Common.{◌≡◌, ◌≤◌, ◌⊎◌, inl, inr, Bool, true, false, List, [], ◌∷◌, ◌++◌, Option, None, Some, refl, sym, ap, ◌∙◌, subst, arith}
 use Rattle.std.specs.Prelude.{Ok, Err}
 use Rattle.facet_format.specs.Complaint.{Refusal}
 use Rattle.facet_format.specs.Event.{Event, Passed}
@@ -15,7 +15,7 @@ use Rattle.facet_json_grammar.specs.Move.{Moves}
 use Rattle.facet_json_grammar.proofs.MoveLaws.{with_cursor, StepOf, by_step}
 use Rattle.facet_json_grammar.proofs.MovesNext.{event-comes, end-comes, next-passes, next-over}
 use Rattle.facet_json_grammar.proofs.WalkComes.{events_before-append}
-use Rattle.facet_json_parser.specs.Inner.Wanted.{PassesMore, none_passed, one_passed}
+use Rattle.facet_json_parser.specs.Inner.Wanted.{PassesMore, none_passed, one_passed, none_taken}
 use Rattle.facet_json_core.specs.Reading.{LacksMemory}
 use Rattle.facet_json_document.specs.Formatted.{GetsStuck}
 use Rattle.facet_json_document.specs.Inner.Checking.{last_after, PassesSome, PassesUp, Told}
@@ -104,24 +104,30 @@ some-more old now new e some move =
 no-events : (now : Now) → now.cursor.spot.peeked ≡ false → PassesSome now now
 no-events now unpeeked = record { events = []; comes = refl; ends = refl; unpeeked = unpeeked }
 
-pub many-more : (old now new : Now) → PassesSome old now → PassesMore now new → PassesSome old new
-many-more old now _ some none_passed = some
-many-more old now new some (one_passed r _ e more one) = some-more old r new e (many-more old now r some more) one.moves
+-- Whatever takes them.
+module _ {T : Type 0} (takes : Option Event → T → T → Type 0) (x : T) where
+  pub many-more : (old now new : Now) (y : T) → PassesSome old now → PassesMore takes now x new y → PassesSome old new
+  many-more old now _ _ some none_passed = some
+  many-more old now new y some (one_passed r _ z _ e more one taken) = some-more old r new e (many-more old now r z some more) one.moves
+  many-more old now new y some (none_taken _ z _ more stays) = many-more old now new z some more
 
-pub many-events : (old new : Now) → old.cursor.spot.peeked ≡ false → PassesMore old new → PassesSome old new
-many-events old new unpeeked more = many-more old old new (no-events old unpeeked) more
+  pub many-events : (old new : Now) (y : T) → old.cursor.spot.peeked ≡ false → PassesMore takes old x new y → PassesSome old new
+  many-events old new y unpeeked more = many-more old old new y (no-events old unpeeked) more
 
-pub many-buffer : (old new : Now) → PassesMore old new → new.buffer ≡ old.buffer
-many-buffer old _ none_passed = refl
-many-buffer old new (one_passed r _ e more one) = one.moves.input.buffer ∙ many-buffer old r more
+  pub many-buffer : (old new : Now) (y : T) → PassesMore takes old x new y → new.buffer ≡ old.buffer
+  many-buffer old _ _ none_passed = refl
+  many-buffer old new y (one_passed r _ z _ e more one taken) = one.moves.input.buffer ∙ many-buffer old r z more
+  many-buffer old new y (none_taken _ z _ more stays) = many-buffer old new z more
 
-pub many-free : (old new : Now) → PassesMore old new → old.cursor.refusal ≡ None → new.cursor.refusal ≡ None
-many-free old _ none_passed free = free
-many-free old new (one_passed r _ e more one) free = one.next.free
+  pub many-free : (old new : Now) (y : T) → PassesMore takes old x new y → old.cursor.refusal ≡ None → new.cursor.refusal ≡ None
+  many-free old _ _ none_passed free = free
+  many-free old new y (one_passed r _ z _ e more one taken) free = one.next.free
+  many-free old new y (none_taken _ z _ more stays) free = many-free old new z more free
 
-pub many-lower : (old new : Now) → PassesMore old new → ahead new ≤ ahead old
-many-lower old _ none_passed = omega arith
-many-lower old new (one_passed r _ e more one) = omega (arith, one.shorter, many-lower old r more)
+  pub many-lower : (old new : Now) (y : T) → PassesMore takes old x new y → ahead new ≤ ahead old
+  many-lower old _ _ none_passed = omega arith
+  many-lower old new y (one_passed r _ z _ e more one taken) = omega (arith, one.shorter, many-lower old r z more)
+  many-lower old new y (none_taken _ z _ more stays) = many-lower old new z more
 
 -- Then the end.
 pub up-to_end : (old now new : Now) (last : Span) → PassesSome old now → Moves now next (event (Ok None)) new → last ≡ current_span_of new → PassesUp old last

@@ -137,9 +137,9 @@ fn pass_up<'t>(parser: &mut JsonParser<'_>) -> Result<Span, DeserializeError<'t>
     ensures inside { IfOk result (λ last. stop (span_of last) ≤ length parser.old.buffer) }
     ensures within { IfErr result (λ e. RefusalWithin parser.old.buffer (refusal_of e)) }
 {
-    pass_in_sight(parser);
+    pass_in_sight(parser, &mut ());
     while passes_event(parser)? {
-        pass_in_sight(parser);
+        pass_in_sight(parser, &mut ());
     }
     Ok(last_span(parser))
 }

@@ -25,7 +25,7 @@ ghost use Rattle.facet_json_reader.specs.Inner.Soughts.{event_of_sought};
 use crate::part::{Part, find, scalar_in_sight};
 use crate::passing::{capture, leave, pass};
 use facet_format::{ParseEvent, ParseEventKind, Span};
-use facet_json_reader::{Held, Language, Reader, Refused, Sought, Wanted};
+use facet_json_reader::{Held, Language, Reader, Refused, Sought, Takes, Wanted};
 use facet_json_token::Trust;
 use std::alloc::{AllocError, Global};
 use std::collections::VecDeque;
@@ -122,17 +122,22 @@ impl<'de> Lookahead<'de> {
         W::pass(&mut self.reader, input, language, trust)
     }
 
-    /// Consumes events as long as a few bytes decide each of them, where none is held.
+    /// Consumes events as long as a few bytes decide each of them and it is taken, where none is held.
     #[inline(always)]
-    pub fn pass_in_sight(&mut self, input: &[u8], language: Language)
+    pub fn pass_in_sight<T: Takes<'de>>(
+        &mut self,
+        input: &'de [u8],
+        language: Language,
+        takes: &mut T,
+    )
         requires sound { IsSound input.now (language_of language) (lookahead_of self.old) }
         ensures sound { IsSound input.now (language_of language) (lookahead_of self.new) }
-        ensures passes { ReaderPasses input.now (language_of language) self.old self.new }
+        ensures passes { ReaderPasses (T.takes input.now) input.now (language_of language) self.old takes.old self.new takes.new }
     {
         if self.held.is_some() {
             return;
         }
-        self.reader.pass_in_sight(input, language);
+        self.reader.pass_in_sight(input, language, takes);
     }
 
     /// Whether something else comes next, where its first byte tells. Where it does not tell, the answer is no.

@@ -26,7 +26,7 @@ ghost use Rattle.facet_json_parser.specs.Steps.{QueuesNow};
 use crate::lookahead::Lookahead;
 use crate::points::{Point, bring_back, drop_point, keep};
 use facet_format::{FormatParser, ParseError, ParseEvent, ParseEventKind, SavePoint, Span};
-use facet_json_reader::{Language, Refused, Sought, Wanted};
+use facet_json_reader::{Language, Refused, Sought, Takes, Wanted};
 use facet_json_token::Trust;
 use std::alloc::Global;
 use std::collections::VecDeque;
@@ -234,15 +234,16 @@ impl<'de> JsonParser<'de> {
         self.lookahead.step(self.input, self.language, self.trust)
     }
 
-    /// Consumes events as long as a few bytes decide each of them.
+    /// Consumes events as long as a few bytes decide each of them and it is taken.
     #[inline(always)]
-    fn pass_events(&mut self)
-        ensures { PassesMore self.old self.new }
+    fn pass_events<T: Takes<'de>>(&mut self, takes: &mut T)
+        ensures { PassesMore (T.takes self.old.buffer) self.old takes.old self.new takes.new }
     {
         if self.refusal.is_some() {
             return;
         }
-        self.lookahead.pass_in_sight(self.input, self.language);
+        self.lookahead
+            .pass_in_sight(self.input, self.language, takes);
     }
 
     /// Whether something else comes next, as its first byte tells.
@@ -334,12 +335,12 @@ pub fn next_wanted<'de, W: Wanted<'de>>(parser: &mut JsonParser<'de>) -> Option<
     parser.step()
 }
 
-/// Consumes events as long as a few bytes decide each of them, and tells none of them. It does not allocate, but for open containers.
+/// Consumes events as long as a few bytes decide each of them and it is taken. It does not allocate, but for open containers.
 #[inline(always)]
-pub fn pass_in_sight(parser: &mut JsonParser<'_>)
-    ensures { PassesMore parser.old parser.new }
+pub fn pass_in_sight<'de, T: Takes<'de>>(parser: &mut JsonParser<'de>, takes: &mut T)
+    ensures { PassesMore (T.takes parser.old.buffer) parser.old takes.old parser.new takes.new }
 {
-    parser.pass_events();
+    parser.pass_events(takes);
 }
 
 /// Whether something else comes next, as its first byte tells. Where it does not tell, the answer is no. Nothing is read.

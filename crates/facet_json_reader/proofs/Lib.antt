@@ -22,6 +22,7 @@ pub mod ShortNumbers
 pub mod SortsOfTokens
 pub mod StopLanes
 pub mod StoppingTokens
+pub mod TakenPieces
 pub mod TextRuns
 pub mod TokenMeanings
 pub mod TokensThere

@@ -8,7 +8,10 @@ use Rattle.facet_format.specs.Event as event
 use Rattle.facet_json_token.specs.Token as token
 use Rattle.facet_json_grammar.specs.Meaning.{tree_of_number}
 use Rattle.facet_json_reader.specs.Inner.Short.{IsDecimalThere}
-use Rattle.facet_json_reader.specs.Values.{IsScalarThere}
+use Rattle.facet_json_reader.specs.Inner.Whole.{whole_scalar}
+use Rattle.facet_json_reader.specs.Values.{IsScalarThere, IsShortScalar, short_unsigned, short_signed}
+use Rattle.facet_json_reader.specs.declared.number.Whole.{Whole}
+use Rattle.facet_json_reader.specs.declared.number.Whole.TheVariants as whole
 
 -- A decimal that has a value is a scalar.
 pub decimal-there : (buffer : List ℕ) (at len : ℕ) (o : Option event.Text) → IsDecimalThere buffer at len →
@@ -28,3 +31,8 @@ decimal-there buffer at len (Some d) is means =
       },
       refl,
     )
+
+-- A whole number's value is no text.
+pub whole-short : (w : Whole) → IsShortScalar (whole_scalar w)
+whole-short (whole.Unsigned n) = short_unsigned n
+whole-short (whole.Signed n) = short_signed n

@@ -1,8 +1,8 @@
 -- Values that stand at an offset, as their tokens mean them.
-use Rattle.std.specs.Prelude.{◌≡◌, ◌<◌, ◌+◌, ◌-◌, ◌==◌, ◌&&◌, ℕ, true, false, not, nat_le, length, List, Some, drop, slice_get, slice_range}
+use Rattle.std.specs.Prelude.{◌≡◌, ◌<◌, ◌+◌, ◌-◌, ◌==◌, ◌&&◌, ℕ, ℤ, true, false, not, nat_le, length, List, Some, drop, slice_get, slice_range}
 use Rattle.std.specs.List.{list_all}
 use Rattle.facet_format.specs.Bytes.{quote, backslash}
-use Rattle.facet_format.specs.Event.{Scalar}
+use Rattle.facet_format.specs.Event.{Scalar, Text, u64, i64, decimal}
 use Rattle.facet_format.specs.Span.{span_at}
 use Rattle.facet_json_token.specs.Cut.{has_backslash, cut_here, token_at}
 use Rattle.facet_json_token.specs.Gap.{Mode}
@@ -42,8 +42,19 @@ pub record IsScalarThere (buffer : List ℕ) (at len : ℕ) (value : Scalar) : T
   pub means : meaning_of buffer kind ≡ Some meant
   pub read : value ≡ scalar_of kind (Some meant)
 
+-- a number's value that is no text
+pub data IsShortScalar : Scalar → Type 0 where
+  short_unsigned : (n : ℕ) → IsShortScalar (u64 n)
+  short_signed : (n : ℤ) → IsShortScalar (i64 n)
+  short_decimal : (t : Text) → IsShortScalar (decimal t)
+
 -- At this offset stands a scalar of so many bytes that the language allows.
 pub record IsAllowedThere (language : Language) (buffer : List ℕ) (at len : ℕ) : Type 0 where
   pub value : Scalar
   pub there : IsScalarThere buffer at len value
   pub allowed : Allows language buffer (record { kind = there.kind; span = span_at at len })
+
+-- At this offset stands such a number, whose value is no text.
+pub record IsNumberThere (language : Language) (buffer : List ℕ) (at len : ℕ) : Type 0 where
+  pub scalar : IsAllowedThere language buffer at len
+  pub short : IsShortScalar scalar.value

@@ -1,8 +1,9 @@
-//! Events consumed one after another, as long as a few bytes decide each of them. No event is made of them, where the reader is stands in
-//! locals meanwhile, and the language is known where this is compiled.
+//! Events consumed one after another, as long as a few bytes decide each of them and it is taken. No event is made of them, where the
+//! reader is stands in locals meanwhile, and the language and what takes them are known where this is compiled.
 
-ghost use Rattle.std.specs.Prelude.{◌≡◌, ◌≤◌, ◌<◌, ◌+◌, ◌∷◌, ℕ, true, false, List, Some, length, slice_get, IfNone, IfSome};
-ghost use Rattle.facet_format.specs.Event.{ContainerKind as SpecContainer, Scalar, object, array};
+ghost use Rattle.std.specs.Prelude.{◌≡◌, ◌≤◌, ◌<◌, ◌+◌, ◌∷◌, ℕ, true, false, List, Some, length, slice_get, slice_range, IfNone, IfSome};
+ghost use Rattle.facet_format.specs.Bytes.{quote};
+ghost use Rattle.facet_format.specs.Event.{ContainerKind as SpecContainer, EventKind, Scalar, object, array, scalar};
 ghost use Rattle.facet_format.specs.Span.{stop, span_at};
 ghost use Rattle.facet_format.specs.Views.{span_of};
 ghost use Rattle.facet_json_token.specs.Cut.{past_gap};
@@ -16,6 +17,8 @@ ghost use Rattle.facet_json_grammar.specs.Place.{names, passes, place_turn};
 ghost use Rattle.facet_json_reader.specs.PlaceViews.{language_of, place_of, opening_bracket, closing_bracket, opening_event};
 ghost use Rattle.facet_json_reader.specs.Views.{stage_of};
 ghost use Rattle.facet_json_reader.specs.Inner.InSight.{reader_at, IsFront, PassesSeveral, PassesOver, PassesBracket, GoesFar, GoesFarIn};
+ghost use Rattle.facet_json_reader.specs.Inner.InSight.{Stays, TakesScalar};
+ghost use Rattle.facet_json_reader.specs.Pieces.{IsPiece};
 ghost use Rattle.facet_json_reader.specs.Inner.Quick.{MayBeValue, IsWord};
 ghost use Rattle.facet_json_reader.specs.Values.{IsAllowedThere};
 
@@ -23,6 +26,7 @@ use crate::number::number_len;
 use crate::place::{Language, Place, Turn};
 use crate::reader::{Contexts, Reader, Stage};
 use crate::step::closing_sort;
+use crate::takes::{Piece, Takes};
 use crate::text::text_end;
 use facet_format::{ContainerKind, Span};
 use facet_json_token::Mode;
@@ -89,24 +93,29 @@ pub(crate) struct Front {
 }
 
 impl Reader {
-    /// Consumes events as long as a few bytes decide each of them. It allocates for open containers alone, and where there is no memory for
-    /// one, it goes no further.
-    pub fn pass_in_sight(&mut self, input: &[u8], language: Language)
+    /// Consumes events as long as a few bytes decide each of them and it is taken. It allocates for open containers alone, and where there
+    /// is no memory for one, it goes no further.
+    pub fn pass_in_sight<'de, T: Takes<'de>>(
+        &mut self,
+        input: &'de [u8],
+        language: Language,
+        takes: &mut T,
+    )
         requires { stop (span_of self.old.last) ≤ length input.now }
-        ensures { PassesSeveral input.now (language_of language) self.old self.new }
+        ensures { PassesSeveral (T.takes input.now) input.now (language_of language) self.old takes.old self.new takes.new }
     {
         match language {
-            Language::Plain => self.pass_in::<InPlain>(input),
-            Language::Jsonc => self.pass_in::<InJsonc>(input),
-            Language::Strict => self.pass_in::<InStrict>(input),
+            Language::Plain => self.pass_in::<InPlain, T>(input, takes),
+            Language::Jsonc => self.pass_in::<InJsonc, T>(input, takes),
+            Language::Strict => self.pass_in::<InStrict, T>(input, takes),
         }
     }
 
     /// Consumes such events in this language.
     #[inline(never)]
-    fn pass_in<L: InLanguage>(&mut self, input: &[u8])
+    fn pass_in<'de, L: InLanguage, T: Takes<'de>>(&mut self, input: &'de [u8], takes: &mut T)
         requires { stop (span_of self.old.last) ≤ length input.now }
-        ensures { PassesSeveral input.now L.language self.old self.new }
+        ensures { PassesSeveral (T.takes input.now) input.now L.language self.old takes.old self.new takes.new }
     {
         let Some(ahead) = self.ahead(input, L::language()) else {
             return;
@@ -117,7 +126,7 @@ impl Reader {
             place: ahead.place,
             at: ahead.at,
         };
-        let to = pass_all::<L>(input, &mut self.contexts, from);
+        let to = pass_all::<L, T>(input, takes, &mut self.contexts, from);
         self.last = to.last;
         self.stage = to.stage;
     }
@@ -125,14 +134,20 @@ impl Reader {
 
 /// Consumes members and items that a few bytes decide, and the brackets between them.
 #[inline(always)]
-fn pass_all<L: InLanguage>(input: &[u8], contexts: &mut Contexts, from: Front) -> Front
+fn pass_all<'de, L: InLanguage, T: Takes<'de>>(
+    input: &'de [u8],
+    takes: &mut T,
+    contexts: &mut Contexts,
+    from: Front,
+) -> Front
     ensures { IsFront input.now L.language contexts.old from
-        → PassesSeveral input.now L.language (reader_at contexts.old from) (reader_at contexts.new result) }
+        → PassesSeveral (T.takes input.now) input.now L.language (reader_at contexts.old from) takes.old
+        (reader_at contexts.new result) takes.new }
 {
     let mut front = from;
     loop {
-        let inside = pass_inside::<L>(input, contexts, front);
-        let Some(next) = pass_bracket::<L>(input, contexts, inside) else {
+        let inside = pass_inside::<L, T>(input, takes, contexts, front);
+        let Some(next) = pass_bracket::<L, T>(input, takes, contexts, inside) else {
             return inside;
         };
         front = next;
@@ -144,29 +159,45 @@ fn pass_all<L: InLanguage>(input: &[u8], contexts: &mut Contexts, from: Front) -
 
 /// Consumes members or items of the innermost container, up to one that is more than a scalar which a few bytes decide.
 #[inline(always)]
-fn pass_inside<L: InLanguage>(input: &[u8], contexts: &Contexts, from: Front) -> Front
-    ensures far { IsFront input.now L.language contexts.now from → GoesFar input.now L.language contexts.now from result }
+fn pass_inside<'de, L: InLanguage, T: Takes<'de>>(
+    input: &'de [u8],
+    takes: &mut T,
+    contexts: &Contexts,
+    from: Front,
+) -> Front
+    ensures far { IsFront input.now L.language contexts.now from
+        → GoesFar (T.takes input.now) input.now L.language contexts.now from takes.old result takes.new }
     ensures onward { from.at ≤ result.at }
 {
     match contexts.innermost() {
-        Some(ContainerKind::Object) => pass_members::<L>(input, from),
-        Some(ContainerKind::Array) => pass_items::<L>(input, from),
+        Some(ContainerKind::Object) => pass_members::<L, T>(input, takes, from),
+        Some(ContainerKind::Array) => pass_items::<L, T>(input, takes, from),
         None => from,
     }
 }
 
 /// Consumes an object's members, up to one whose value is no scalar that a few bytes decide.
 #[inline(always)]
-fn pass_members<L: InLanguage>(input: &[u8], from: Front) -> Front
-    ensures far { GoesFarIn input.now L.language object from result }
+fn pass_members<'de, L: InLanguage, T: Takes<'de>>(
+    input: &'de [u8],
+    takes: &mut T,
+    from: Front,
+) -> Front
+    ensures far { GoesFarIn (T.takes input.now) input.now L.language object from takes.old result takes.new }
     ensures onward { from.at ≤ result.at }
 {
     let mut front = from;
     while is_key(front.place) {
-        let Some(key) = pass_key::<L>(input, front) else {
+        let Some(key) = pass_key::<L, T>(input, takes, front) else {
             return front;
         };
-        let Some(next) = pass_scalar::<L>(input, key, Place::AfterMember, Place::BeforeKey) else {
+        let Some(next) = pass_scalar::<L, T>(
+            input,
+            takes,
+            key,
+            Place::AfterMember,
+            Place::BeforeKey,
+        ) else {
             return key;
         };
         front = next;
@@ -176,13 +207,23 @@ fn pass_members<L: InLanguage>(input: &[u8], from: Front) -> Front
 
 /// Consumes an array's items, up to one that is no scalar that a few bytes decide.
 #[inline(always)]
-fn pass_items<L: InLanguage>(input: &[u8], from: Front) -> Front
-    ensures far { GoesFarIn input.now L.language array from result }
+fn pass_items<'de, L: InLanguage, T: Takes<'de>>(
+    input: &'de [u8],
+    takes: &mut T,
+    from: Front,
+) -> Front
+    ensures far { GoesFarIn (T.takes input.now) input.now L.language array from takes.old result takes.new }
     ensures onward { from.at ≤ result.at }
 {
     let mut front = from;
     while is_item(front.place) {
-        let Some(next) = pass_scalar::<L>(input, front, Place::AfterItem, Place::BeforeItem) else {
+        let Some(next) = pass_scalar::<L, T>(
+            input,
+            takes,
+            front,
+            Place::AfterItem,
+            Place::BeforeItem,
+        ) else {
             return front;
         };
         front = next;
@@ -267,12 +308,18 @@ fn begins_no_gap(byte: u8, mode: Mode) -> bool
     }
 }
 
-/// Consumes a key and its colon.
+/// Consumes a key and its colon, where it is taken.
 #[inline(always)]
-fn pass_key<L: InLanguage>(input: &[u8], from: Front) -> Option<Front>
+fn pass_key<'de, L: InLanguage, T: Takes<'de>>(
+    input: &'de [u8],
+    takes: &mut T,
+    from: Front,
+) -> Option<Front>
     ensures over { IfSome result (λ f. (stack : List SpecContainer)
         → ((start finish : ℕ) → place_turn (place_of from.place) (string start finish false) ≡ names)
-        → IsFront input.now L.language stack from → PassesOver input.now L.language stack from stack f) }
+        → IsFront input.now L.language stack from
+        → PassesOver (T.takes input.now) input.now L.language stack from takes.old stack f takes.new) }
+    ensures left { IfNone result (Stays (T.takes input.now) takes.old takes.new) }
     ensures place { IfSome result (λ f. f.place ≡ Place.AfterColon) }
     ensures onward { IfSome result (λ f. (from.at < f.at) × (from.at < length input.now)) }
 {
@@ -284,6 +331,7 @@ fn pass_key<L: InLanguage>(input: &[u8], from: Front) -> Option<Front>
     if !is_there(input, colon, b':') {
         return None;
     }
+    take_piece(input, takes, Piece::Key, from.at, end + 1 - from.at)?;
     Some(Front {
         last: Span::new(colon, 1),
         stage: Stage::Within(Place::AfterColon),
@@ -292,16 +340,24 @@ fn pass_key<L: InLanguage>(input: &[u8], from: Front) -> Option<Front>
     })
 }
 
-/// Consumes a scalar, after which this place is, and the comma behind it.
+/// Consumes a scalar, after which this place is, and the comma behind it, where it is taken.
 #[inline(always)]
-fn pass_scalar<L: InLanguage>(input: &[u8], from: Front, place: Place, next: Place) -> Option<Front>
+fn pass_scalar<'de, L: InLanguage, T: Takes<'de>>(
+    input: &'de [u8],
+    takes: &mut T,
+    from: Front,
+    place: Place,
+    next: Place,
+) -> Option<Front>
     requires { place_turn (place_of place) comma ≡ passes (place_of next) }
     ensures over { IfSome result (λ f. (stack : List SpecContainer) → MayBeValue (place_of from.place)
         → after_value stack ≡ within (place_of place)
-        → IsFront input.now L.language stack from → PassesOver input.now L.language stack from stack f) }
+        → IsFront input.now L.language stack from
+        → PassesOver (T.takes input.now) input.now L.language stack from takes.old stack f takes.new) }
+    ensures left { IfNone result (Stays (T.takes input.now) takes.old takes.new) }
     ensures onward { IfSome result (λ f. (from.at < f.at) × (from.at < length input.now)) }
 {
-    let len = scalar_len::<L>(input, from.at)?;
+    let len = take_scalar::<L, T>(input, takes, from.at)?;
     Some(behind::<L>(input, from.at, len, place, next))
 }
 
@@ -335,77 +391,143 @@ fn behind<L: InLanguage>(input: &[u8], at: usize, len: usize, place: Place, next
     }
 }
 
-/// The length of the scalar there, where a few bytes decide it.
+/// Takes the scalar there, where a few bytes decide it, and returns its length.
 #[inline(always)]
-fn scalar_len<L: InLanguage>(input: &[u8], at: usize) -> Option<usize>
-    ensures { IfSome result (λ len. IsAllowedThere L.language input.now at len) }
+fn take_scalar<'de, L: InLanguage, T: Takes<'de>>(
+    input: &'de [u8],
+    takes: &mut T,
+    at: usize,
+) -> Option<usize>
+    ensures scalar { IfSome result (λ len. TakesScalar (T.takes input.now) input.now L.language at len takes.old takes.new) }
+    ensures left { IfNone result (Stays (T.takes input.now) takes.old takes.new) }
 {
     let first = *input.get(at)?;
     match first {
-        b'"' => {
-            let end = text_end(input, L::language(), at)?;
-            Some(end + 1 - at)
+        b'"' => take_text::<L, T>(input, takes, at),
+        b'-' | b'0'..=b'9' => {
+            let len = number_len(input, L::language(), at, first)?;
+            take_piece(input, takes, Piece::Number, at, len)
         }
-        b'-' | b'0'..=b'9' => number_len(input, L::language(), at, first),
-        b't' => word_len(input, at, b"true"),
-        b'f' => word_len(input, at, b"false"),
-        b'n' => word_len(input, at, b"null"),
+        b't' => take_word(input, takes, Piece::Bool(true), at, b"true"),
+        b'f' => take_word(input, takes, Piece::Bool(false), at, b"false"),
+        b'n' => take_word(input, takes, Piece::Null, at, b"null"),
         _ => None,
     }
 }
 
-/// The length of the literal of these letters, where it stands there.
+/// Takes the text whose quote is at `at`, where it holds no escape, and returns its length.
 #[inline(always)]
-fn word_len(input: &[u8], at: usize, word: &[u8]) -> Option<usize>
-    requires { at ≤ length input.now }
-    ensures { (language : SpecLanguage) (first : ℕ) (value : Scalar) → IsWord first word.now value
-        → slice_get input.now at ≡ Some first → IfSome result (λ len. IsAllowedThere language input.now at len) }
+fn take_text<'de, L: InLanguage, T: Takes<'de>>(
+    input: &'de [u8],
+    takes: &mut T,
+    at: usize,
+) -> Option<usize>
+    requires { slice_get input.now at ≡ Some quote }
+    ensures scalar { IfSome result (λ len. TakesScalar (T.takes input.now) input.now L.language at len takes.old takes.new) }
+    ensures left { IfNone result (Stays (T.takes input.now) takes.old takes.new) }
+{
+    let end = text_end(input, L::language(), at)?;
+    take_piece(input, takes, Piece::Text, at, end + 1 - at)
+}
+
+/// Takes the literal of these letters, where it stands there, and returns its length.
+#[inline(always)]
+fn take_word<'de, T: Takes<'de>>(
+    input: &'de [u8],
+    takes: &mut T,
+    piece: Piece,
+    at: usize,
+    word: &[u8],
+) -> Option<usize>
+    requires within { at ≤ length input.now }
+    requires piece { (kind : EventKind) × ((bytes : List ℕ) → IsPiece bytes piece kind) }
+    ensures scalar { (language : SpecLanguage) (first : ℕ) (value : Scalar) → IsWord first word.now value
+        → ((bytes : List ℕ) → IsPiece bytes piece (scalar value))
+        → slice_get input.now at ≡ Some first
+        → IfSome result (λ len. TakesScalar (T.takes input.now) input.now language at len takes.old takes.new) }
+    ensures left { IfNone result (Stays (T.takes input.now) takes.old takes.new) }
 {
     let len = word.len();
-    if common_len(input, at, word) == len {
+    if common_len(input, at, word) != len {
+        return None;
+    }
+    take_piece(input, takes, piece, at, len)
+}
+
+/// Takes so many bytes at `at` as an event, and returns how many.
+#[inline(always)]
+fn take_piece<'de, T: Takes<'de>>(
+    input: &'de [u8],
+    takes: &mut T,
+    piece: Piece,
+    at: usize,
+    len: usize,
+) -> Option<usize>
+    requires within { at + len ≤ length input.now }
+    requires piece { (kind : EventKind) × IsPiece (slice_range input.now at (at + len)) piece kind }
+    ensures len { IfSome result (λ n. n ≡ len) }
+    ensures taken { IfSome result (λ _. (kind : EventKind) → IsPiece (slice_range input.now at (at + len)) piece kind
+        → T.takes input.now (Some (record { kind = kind; span = span_at at len })) takes.old takes.new) }
+    ensures left { IfNone result (Stays (T.takes input.now) takes.old takes.new) }
+{
+    if takes.take(input, piece, Span::new(at, len)) {
         Some(len)
     } else {
         None
     }
 }
 
-/// Consumes a bracket, where there is memory for a container that it opens, and the comma behind one that it closes.
+/// Consumes a bracket, where it is taken and there is memory for a container that it opens, and the comma behind one that it closes.
 #[inline(always)]
-fn pass_bracket<L: InLanguage>(input: &[u8], contexts: &mut Contexts, from: Front) -> Option<Front>
+fn pass_bracket<'de, L: InLanguage, T: Takes<'de>>(
+    input: &'de [u8],
+    takes: &mut T,
+    contexts: &mut Contexts,
+    from: Front,
+) -> Option<Front>
     ensures same { IfNone result (contexts.new ≡ contexts.old) }
+    ensures left { IfNone result (Stays (T.takes input.now) takes.old takes.new) }
     ensures over { IfSome result (λ f. IsFront input.now L.language contexts.old from
-        → PassesBracket input.now L.language contexts.old from contexts.new f) }
+        → PassesBracket (T.takes input.now) input.now L.language contexts.old from takes.old contexts.new f takes.new) }
     ensures onward { IfSome result (λ f. (from.at < f.at) × (from.at < length input.now)) }
 {
     match *input.get(from.at)? {
-        b'{' => pass_start::<L>(input, contexts, from, ContainerKind::Object),
-        b'[' => pass_start::<L>(input, contexts, from, ContainerKind::Array),
-        b'}' => pass_end::<L>(input, contexts, from, ContainerKind::Object),
-        b']' => pass_end::<L>(input, contexts, from, ContainerKind::Array),
+        b'{' => pass_start::<L, T>(input, takes, contexts, from, ContainerKind::Object),
+        b'[' => pass_start::<L, T>(input, takes, contexts, from, ContainerKind::Array),
+        b'}' => pass_end::<L, T>(input, takes, contexts, from, ContainerKind::Object),
+        b']' => pass_end::<L, T>(input, takes, contexts, from, ContainerKind::Array),
         _ => None,
     }
 }
 
 /// Consumes the bracket that opens a container of this kind.
 #[inline(always)]
-fn pass_start<L: InLanguage>(
-    input: &[u8],
+fn pass_start<'de, L: InLanguage, T: Takes<'de>>(
+    input: &'de [u8],
+    takes: &mut T,
     contexts: &mut Contexts,
     from: Front,
     kind: ContainerKind,
 ) -> Option<Front>
     requires { slice_get input.now from.at ≡ Some (opening_bracket kind) }
     ensures same { IfNone result (contexts.new ≡ contexts.old) }
+    ensures left { IfNone result (Stays (T.takes input.now) takes.old takes.new) }
     ensures over { IfSome result (λ f. IsFront input.now L.language contexts.old from
-        → PassesBracket input.now L.language contexts.old from contexts.new f) }
+        → PassesBracket (T.takes input.now) input.now L.language contexts.old from takes.old contexts.new f takes.new) }
     ensures onward { IfSome result (λ f. (from.at < f.at) × (from.at < length input.now)) }
 {
     if !from.place.takes_value() {
         return None;
     }
-    match contexts.push(kind) {
-        Ok(()) => Some(behind_start::<L>(input, from.at, kind)),
-        Err(_) => None,
+    let Ok(()) = contexts.push(kind) else {
+        return None;
+    };
+    match take_piece(input, takes, Piece::Start(kind), from.at, 1) {
+        Some(_) => Some(behind_start::<L>(input, from.at, kind)),
+        None => {
+            contexts.pop();
+            None
+        }
     }
 }
 
@@ -440,21 +562,24 @@ fn inside(kind: ContainerKind) -> Place
 
 /// Consumes the bracket that closes a container of this kind, and the comma behind it.
 #[inline(always)]
-fn pass_end<L: InLanguage>(
-    input: &[u8],
+fn pass_end<'de, L: InLanguage, T: Takes<'de>>(
+    input: &'de [u8],
+    takes: &mut T,
     contexts: &mut Contexts,
     from: Front,
     kind: ContainerKind,
 ) -> Option<Front>
     requires { slice_get input.now from.at ≡ Some (closing_bracket kind) }
     ensures same { IfNone result (contexts.new ≡ contexts.old) }
+    ensures left { IfNone result (Stays (T.takes input.now) takes.old takes.new) }
     ensures over { IfSome result (λ f. IsFront input.now L.language contexts.old from
-        → PassesBracket input.now L.language contexts.old from contexts.new f) }
+        → PassesBracket (T.takes input.now) input.now L.language contexts.old from takes.old contexts.new f takes.new) }
     ensures onward { IfSome result (λ f. (from.at < f.at) × (from.at < length input.now)) }
 {
     let Turn::Closes(_) = from.place.turn_by(closing_sort(kind)) else {
         return None;
     };
+    take_piece(input, takes, Piece::End(kind), from.at, 1)?;
     contexts.pop();
     Some(behind_end::<L>(input, contexts, from.at))
 }

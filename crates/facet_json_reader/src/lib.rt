@@ -11,6 +11,7 @@ mod reader;
 mod refusal;
 mod sought;
 mod step;
+mod takes;
 mod text;
 mod wanted;
 
@@ -20,4 +21,5 @@ pub use place::{Language, Place, Turn};
 pub use reader::{Contexts, Held, Reader, Stage};
 pub use refusal::{Expected, Name, NoRaw, Refused, Why};
 pub use sought::Sought;
+pub use takes::{Piece, Takes};
 pub use wanted::{ListEnd, ListStart, Member, Null, ObjectStart, Wanted};

@@ -16,7 +16,7 @@ ghost use Rattle.facet_json_grammar.specs.Walk.{scalar_by};
 ghost use Rattle.facet_json_token.specs.RfcNumber.{SomeDigits, IsRfcNumber};
 ghost use Rattle.facet_json_reader.specs.Inner.Whole.{digits_from, OpensNumber, IsWholeNumber, whole_scalar};
 ghost use Rattle.facet_json_reader.specs.Inner.Short.{IsDecimalThere, IsPointed, IsShortNumber, IsShortIn};
-ghost use Rattle.facet_json_reader.specs.Values.{IsScalarThere, IsAllowedThere};
+ghost use Rattle.facet_json_reader.specs.Values.{IsScalarThere, IsNumberThere};
 ghost use Rattle.facet_format.specs.Span.{span_at};
 ghost use Rattle.facet_json_grammar.specs.StrictTokens.{Allows};
 ghost use Rattle.facet_json_reader.specs.PlaceViews.{language_of};
@@ -151,7 +151,7 @@ pub(crate) fn short_number_in(
 pub(crate) fn number_len(input: &[u8], language: Language, at: usize, first: u8) -> Option<usize>
     requires here { slice_get input.now at ≡ Some first }
     requires number { start_of first ≡ opens_number }
-    ensures { IfSome result (λ len. IsAllowedThere (language_of language) input.now at len) }
+    ensures { IfSome result (λ len. IsNumberThere (language_of language) input.now at len) }
 {
     if let Some((len, _)) = short_whole_in(input, language, at, first) {
         return Some(len);
@@ -167,7 +167,7 @@ pub(crate) fn number_len(input: &[u8], language: Language, at: usize, first: u8)
 fn pointed_len_in(input: &[u8], language: Language, at: usize, first: u8) -> Option<usize>
     requires here { slice_get input.now at ≡ Some first }
     requires number { start_of first ≡ opens_number }
-    ensures { IfSome result (λ len. IsAllowedThere (language_of language) input.now at len) }
+    ensures { IfSome result (λ len. IsNumberThere (language_of language) input.now at len) }
 {
     match language {
         Language::Plain | Language::Jsonc => {
@@ -224,7 +224,7 @@ fn point_len(input: &[u8], at: usize) -> Option<usize>
 fn other_number_len(input: &[u8], language: Language, at: usize, first: u8) -> Option<usize>
     requires here { slice_get input.now at ≡ Some first }
     requires number { start_of first ≡ opens_number }
-    ensures { IfSome result (λ len. IsAllowedThere (language_of language) input.now at len) }
+    ensures { IfSome result (λ len. IsNumberThere (language_of language) input.now at len) }
 {
     let (len, whole) = short_number_in(input, language, at, first)?;
     match whole {

@@ -53,7 +53,7 @@ fn strict_text_at<'de>(input: &'de [u8], trust: Trust, at: usize) -> Option<(usi
 pub(crate) fn text_end(input: &[u8], language: Language, at: usize) -> Option<usize>
     requires { slice_get input.now at ≡ Some quote }
     ensures { IfSome result (λ end. IsClosedAt (least_of (language_of language)) input.now at end
-        × ((text : List ℕ) × IsPlainText input.now at end text)) }
+        × IsUtf8 (slice_range input.now (at + 1) end)) }
 {
     let least = least_in(language);
     let end = run_end::<Ordinary>(input, at + 1, least);
@@ -79,7 +79,7 @@ fn least_in(language: Language) -> u8
 fn other_text_end(input: &[u8], at: usize, from: usize, least: u8) -> Option<usize>
     requires here { slice_get input.now at ≡ Some quote }
     requires ordinary { from ≡ (at + 1) + prefix_len (is_ordinary least) (drop (at + 1) input.now) }
-    ensures { IfSome result (λ end. IsClosedAt least input.now at end × ((text : List ℕ) × IsPlainText input.now at end text)) }
+    ensures { IfSome result (λ end. IsClosedAt least input.now at end × IsUtf8 (slice_range input.now (at + 1) end)) }
 {
     let (end, _) = other_text_at(input, at, from, least)?;
     Some(end)
@@ -127,7 +127,8 @@ fn other_text_at<'de>(
 ) -> Option<(usize, &'de str)>
     requires here { slice_get input.now at ≡ Some quote }
     requires ordinary { from ≡ (at + 1) + prefix_len (is_ordinary least) (drop (at + 1) input.now) }
-    ensures { IfSome result (λ r. IsClosedAt least input.now at r.0 × IsPlainText input.now at r.0 r.1.now) }
+    ensures text { IfSome result (λ r. IsClosedAt least input.now at r.0 × IsPlainText input.now at r.0 r.1.now) }
+    ensures utf8 { IfSome result (λ r. IsUtf8 (slice_range input.now (at + 1) r.0)) }
 {
     let Some(0x80..) = input.get(from) else {
         return None;

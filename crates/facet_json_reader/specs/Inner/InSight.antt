@@ -1,18 +1,27 @@
--- Events that are consumed one after another, and how far that is.
-use Rattle.std.specs.Prelude.{◌≡◌, ◌∷◌, ℕ, List}
-use Rattle.facet_format.specs.Event.{ContainerKind, Event}
+-- Events that are consumed one after another, each of which is taken, and how far that is.
+use Rattle.std.specs.Prelude.{◌≡◌, ◌∷◌, ℕ, List, Option, Some, None}
+use Rattle.facet_format.specs.Event.{ContainerKind, Event, scalar}
+use Rattle.facet_format.specs.Span.{span_at}
 use Rattle.facet_json_grammar.specs.Language.{Language}
 use Rattle.facet_json_reader.specs.declared.in_sight.Front.{Front}
 use Rattle.facet_json_reader.specs.declared.reader.Reader.{Reader}
 use Rattle.facet_json_reader.specs.declared.reader.Stage.TheVariants as stages
 use Rattle.facet_json_reader.specs.PlaceViews.{place_of}
 use Rattle.facet_json_reader.specs.Inner.Quick.{Reaches, PassesQuickly}
+use Rattle.facet_json_reader.specs.Values.{IsAllowedThere}
 
--- Some events came where the reader stood, each passed at once, and it stands after them.
-pub data PassesSeveral (buffer : List ℕ) (language : Language) (r : Reader) : Reader → Type 0 where
-  none_more : PassesSeveral buffer language r r
-  one_more : (s t : Reader) (e : Event) → PassesSeveral buffer language r s → PassesQuickly buffer language s e t →
-      PassesSeveral buffer language r t
+-- What takes events took none: it was not told of one, or of one that it does not take.
+pub data Stays {T : Type 0} (takes : Option Event → T → T → Type 0) (x : T) : T → Type 0 where
+  not_told : Stays takes x x
+  not_taken : (y : T) → takes None x y → Stays takes x y
+
+-- Some events came where the reader stood, each was passed at once and taken, and the reader stands after them.
+pub data PassesSeveral {T : Type 0} (takes : Option Event → T → T → Type 0) (buffer : List ℕ) (language : Language) (r : Reader) (x : T) :
+    Reader → T → Type 0 where
+  none_more : PassesSeveral takes buffer language r x r x
+  one_more : (s t : Reader) (y z : T) (e : Event) → PassesSeveral takes buffer language r x s y → PassesQuickly buffer language s e t →
+      takes (Some e) y z → PassesSeveral takes buffer language r x t z
+  none_taken : (s : Reader) (y z : T) → PassesSeveral takes buffer language r x s y → Stays takes y z → PassesSeveral takes buffer language r x s z
 
 -- the reader within these containers
 abbrev pub reader_at : List ContainerKind → Front → Reader
@@ -22,24 +31,34 @@ reader_at stack f = record { last = f.last; contexts = stack; stage = f.stage }
 abbrev pub IsFront : List ℕ → Language → List ContainerKind → Front → Type 0
 IsFront buffer language stack f = Reaches buffer language (reader_at stack f) (place_of f.place) f.at
 
--- One event is consumed, before it within these containers and after it within those.
-pub record PassesOver (buffer : List ℕ) (language : Language) (before : List ContainerKind) (f : Front) (after : List ContainerKind) (g : Front) : Type 0 where
+-- A scalar of so many bytes stands there, and is taken.
+pub record TakesScalar {T : Type 0} (takes : Option Event → T → T → Type 0) (buffer : List ℕ) (language : Language) (at len : ℕ) (x y : T) : Type 0 where
+  pub is : IsAllowedThere language buffer at len
+  pub taken : takes (Some (record { kind = scalar is.value; span = span_at at len })) x y
+
+-- One event is consumed and taken, before it within these containers and after it within those.
+pub record PassesOver {T : Type 0} (takes : Option Event → T → T → Type 0) (buffer : List ℕ) (language : Language) (before : List ContainerKind)
+    (f : Front) (x : T) (after : List ContainerKind) (g : Front) (y : T) : Type 0 where
   pub event : Event
   pub one : PassesQuickly buffer language (reader_at before f) event (reader_at after g)
+  pub taken : takes (Some event) x y
   pub front : IsFront buffer language after g
 
--- A bracket is consumed. After the root's last one no token is looked for.
-pub record PassesBracket (buffer : List ℕ) (language : Language) (before : List ContainerKind) (f : Front) (after : List ContainerKind) (g : Front) : Type 0 where
+-- A bracket is consumed and taken. After the root's last one no token is looked for.
+pub record PassesBracket {T : Type 0} (takes : Option Event → T → T → Type 0) (buffer : List ℕ) (language : Language) (before : List ContainerKind)
+    (f : Front) (x : T) (after : List ContainerKind) (g : Front) (y : T) : Type 0 where
   pub event : Event
   pub one : PassesQuickly buffer language (reader_at before f) event (reader_at after g)
+  pub taken : takes (Some event) x y
   pub front : (g.stage ≡ stages.Over → ⊥) → IsFront buffer language after g
 
 -- Some events are consumed within the same containers.
-pub record GoesFar (buffer : List ℕ) (language : Language) (stack : List ContainerKind) (f g : Front) : Type 0 where
-  pub several : PassesSeveral buffer language (reader_at stack f) (reader_at stack g)
+pub record GoesFar {T : Type 0} (takes : Option Event → T → T → Type 0) (buffer : List ℕ) (language : Language) (stack : List ContainerKind)
+    (f : Front) (x : T) (g : Front) (y : T) : Type 0 where
+  pub several : PassesSeveral takes buffer language (reader_at stack f) x (reader_at stack g) y
   pub front : IsFront buffer language stack g
 
 -- So they are wherever the innermost container is of this kind.
-abbrev pub GoesFarIn : List ℕ → Language → ContainerKind → Front → Front → Type 0
-GoesFarIn buffer language kind f g =
-    (others : List ContainerKind) → IsFront buffer language (kind ∷ others) f → GoesFar buffer language (kind ∷ others) f g
+abbrev pub GoesFarIn : {T : Type 0} → (Option Event → T → T → Type 0) → List ℕ → Language → ContainerKind → Front → T → Front → T → Type 0
+GoesFarIn takes buffer language kind f x g y =
+    (others : List ContainerKind) → IsFront buffer language (kind ∷ others) f → GoesFar takes buffer language (kind ∷ others) f x g y

@@ -8,9 +8,9 @@ pub loop-parser-init : goal.loop-parser-init
 loop-parser-init c =
     let more = c.pass_in_sight.ensures in
     record {
-      passed = many-events _ _ c.requires.unpeeked more;
-      buffer = many-buffer _ _ more;
-      free = many-free _ _ more;
+      passed = many-events _ _ _ _ _ c.requires.unpeeked more;
+      buffer = many-buffer _ _ _ _ _ more;
+      free = many-free _ _ _ _ _ more;
     }
 
 pub returns-in_err-passes_event-clause-refused : goal.returns-in_err-passes_event-clause-refused
@@ -26,15 +26,15 @@ loop-parser-preserved c =
     let told = rw c.if-branch.true at passed in
     let more = c.pass_in_sight-in-loop-parser.ensures in
     record {
-      passed = many-more _ _ _ (some-more _ _ _ told.0 i.passed told.1) more;
-      buffer = many-buffer _ _ more ∙ c.passes_event.ensures.same ∙ i.buffer;
-      free = λ free. many-free _ _ more (told-free _ _ _ passed);
+      passed = many-more _ _ _ _ _ _ (some-more _ _ _ told.0 i.passed told.1) more;
+      buffer = many-buffer _ _ _ _ _ more ∙ c.passes_event.ensures.same ∙ i.buffer;
+      free = λ free. many-free _ _ _ _ _ more (told-free _ _ _ passed);
     }
 
 pub loop-parser-smaller : goal.loop-parser-smaller
 loop-parser-smaller c =
     let shorter = c.passes_event.ensures.shorter (c.in_ok-passes_event.was ∙ ap Ok c.if-branch.true) in
-    omega (arith, many-lower _ _ c.pass_in_sight-in-loop-parser.ensures, shorter)
+    omega (arith, many-lower _ _ _ _ _ c.pass_in_sight-in-loop-parser.ensures, shorter)
 
 pub returns-clause-up : goal.returns-clause-up
 returns-clause-up c =

@@ -6,7 +6,8 @@ use Rattle.facet_json_reader.proofs.in_sight.pass_all.Given as goal
 abbrev pub invariant-loop-next : goal.invariant-loop-next
 invariant-loop-next g l =
     IsFront l.input g.L.InLanguage.language l.fn.contexts l.fn.from →
-    PassesSeveral l.input g.L.InLanguage.language (reader_at l.fn.contexts l.fn.from) (reader_at l.contexts l.front)
+    PassesSeveral (g.T.Takes.takes l.input) l.input g.L.InLanguage.language (reader_at l.fn.contexts l.fn.from) l.fn.takes
+    (reader_at l.contexts l.front) l.takes
     × IsFront l.input g.L.InLanguage.language l.contexts l.front
 
 abbrev pub decreases-loop-next : goal.decreases-loop-next

@@ -2,6 +2,8 @@
 use Rattle.std.proofs.Common.{subst}
 use Rattle.facet_json_reader.specs.PlaceViews.{language_of}
 use Rattle.facet_json_reader.specs.Inner.Short.{IsShortIn}
+use Rattle.facet_json_reader.specs.Values.{short_decimal}
+use Rattle.facet_json_reader.proofs.ShortNumbers.{whole-short}
 use Rattle.facet_json_reader.proofs.number.other_number_len.Goals as goal
 use Rattle.facet_json_reader.proofs.number.other_number_len.Goals.{in-Some-decimal_at, in-None-decimal_at}
 
@@ -14,7 +16,7 @@ pub returns-in-Some : goal.returns-in-Some
 returns-in-Some c =
     let n = c.in_ok-len in
     let told = subst (IsShortIn (language_of c.args.language) c.args.input.now c.args.at n.len) c.in-Some.is n.ensures in
-    record { value = _; there = told.0; allowed = told.1 }
+    record { scalar = record { value = _; there = told.0; allowed = told.1 }; short = whole-short _ }
 
 pub returns-after-decimal_at : goal.returns-after-decimal_at
 returns-after-decimal_at c =
@@ -23,6 +25,6 @@ returns-after-decimal_at c =
     elim c.match-decimal_at.branch [
       | in-Some-decimal_at w ↦
           let d = w.in-Some-decimal_at.ensures in
-          rw w.result-is (record { value = _; there = d.0; allowed = rw d.1 told.1 })
+          rw w.result-is (record { scalar = record { value = _; there = d.0; allowed = rw d.1 told.1 }; short = short_decimal _ })
       | in-None-decimal_at w ↦ rw w.result-is tt
     ]

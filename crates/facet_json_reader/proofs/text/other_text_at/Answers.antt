@@ -12,3 +12,9 @@ plain_text_unchecked-requires-clause-utf8 c =
     let end = c.in_ok-end in
     ordinary-before c.args.least c.args.input.now (c.args.at + 1) c.args.from end.end c.requires.ordinary end.ensures.after
     c.in-Ok.ensures.cases.1
+
+pub returns-in-Ok-clause-utf8 : goal.returns-in-Ok-clause-utf8
+returns-in-Ok-clause-utf8 c =
+    let end = c.in_ok-end in
+    ordinary-before c.args.least c.args.input.now (c.args.at + 1) c.args.from end.end c.requires.ordinary end.ensures.after
+    c.in-Ok.ensures.cases.1

@@ -1,8 +1,7 @@
 -- A run of ordinary bytes up to a quote is the text of a string.
-use Rattle.std.proofs.Common.{◌+◌, slice_range}
+use Rattle.std.proofs.Common.{◌+◌}
 use Rattle.facet_format.specs.Bytes.{quote}
 use Rattle.facet_json_token.proofs.Offsets.{slice_get-from_read}
-use Rattle.facet_json_token.proofs.PlainText.{decoded-plain}
 use Rattle.facet_json_reader.proofs.TextRuns.{run-text, ordinary-IsClosedAt}
 use Rattle.facet_json_reader.proofs.text.text_end.Goals as goal
 
@@ -16,5 +15,4 @@ returns-in-Some-eq34 c =
     let least = c.least_in-least.ensures in
     let closed = ordinary-IsClosedAt c.least_in-least.result buffer at end c.run_end-end.ensures.value closes c.requires in
     let utf8 = run-text c.least_in-least.result buffer (at + 1) end c.run_end-end.ensures.value in
-    let plain = decoded-plain (slice_range buffer (at + 1) end) closed.plain utf8 in
-    (rw least at closed, (slice_range buffer (at + 1) end, record { cut = closed.cut; means = plain }))
+    (rw least at closed, utf8)
