@@ -12,5 +12,5 @@ returns-clause-same c =
 
 pub returns-clause-held : goal.returns-clause-held
 returns-clause-held c =
-    let long : c.len-len.result ≡ length c.args.self.now.held.items = search rules in
+    let long : c.len.result ≡ length c.args.self.now.held.items = search rules in
     pushed-there c.args.self.now.held.items _ c.args.value c.in_ok-at.at (c.in_ok-at.ensures ∙ long) c.in_ok-push.ensures.items

@@ -16,7 +16,7 @@ returns-then-not-is_object-clause-nodes c =
     sym (ap (option_and_then (last_named c.args.key.now)) (no-member_nodes c.args.self.now _ c.in_ok-node.ensures (sym (c.if-not-is_object.ensures _))))
 
 pub returns-then-not-is_object-clause-value : goal.returns-then-not-is_object-clause-value
-returns-then-not-is_object-clause-value c = sym (no-members c.args.self.now _ c.args.key.now c.in_ok-node.ensures (sym (c.if-not-is_object.ensures _)))
+returns-then-not-is_object-clause-value c = sym (no-members c.args.self.now c.in_ok-node.node.now c.args.key.now c.in_ok-node.ensures (sym (c.if-not-is_object.ensures _)))
 
 pub returns-clause-nodes : goal.returns-clause-nodes
 returns-clause-nodes c =

@@ -17,7 +17,7 @@ returns-then-not-is_list-clause-nodes c =
     sym (ap (option_and_then (λ held. slice_get held c.args.index)) (no-item_nodes c.args.self.now _ c.in_ok-node.ensures (sym (c.if-not-is_list.ensures _))))
 
 pub returns-then-not-is_list-clause-value : goal.returns-then-not-is_list-clause-value
-returns-then-not-is_list-clause-value c = sym (no-items c.args.self.now _ c.args.index c.in_ok-node.ensures (sym (c.if-not-is_list.ensures _)))
+returns-then-not-is_list-clause-value c = sym (no-items c.args.self.now c.in_ok-node.node.now c.args.index c.in_ok-node.ensures (sym (c.if-not-is_list.ensures _)))
 
 pub returns-clause-nodes : goal.returns-clause-nodes
 returns-clause-nodes c =

@@ -17,7 +17,7 @@ pub returns-then-not-is_list-clause-nodes : goal.returns-then-not-is_list-clause
 returns-then-not-is_list-clause-nodes c = sym (no-item_nodes c.args.self.now _ c.in_ok-node.ensures (sym (c.if-not-is_list.ensures _)))
 
 pub returns-then-not-is_list-clause-values : goal.returns-then-not-is_list-clause-values
-returns-then-not-is_list-clause-values c = sym (ap (option_map trees_list) (no-list c.args.self.now _ c.in_ok-node.ensures (sym (c.if-not-is_list.ensures _))))
+returns-then-not-is_list-clause-values c = sym (ap (option_map trees_list) (no-list c.args.self.now c.in_ok-node.node.now c.in_ok-node.ensures (sym (c.if-not-is_list.ensures _))))
 
 pub returns-clause-nodes : goal.returns-clause-nodes
 returns-clause-nodes c =

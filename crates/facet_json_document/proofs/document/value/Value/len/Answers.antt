@@ -19,4 +19,4 @@ returns-then-is_object c =
     ∙ sym (ap len (object-of c.args.self.now _ c.in_ok-node.ensures (sym (c.if-is_object.ensures _))))
 
 pub returns : goal.returns
-returns c = sym (no-len c.args.self.now _ c.in_ok-node.ensures (sym (c.if-is_list.ensures _)) (sym (c.if-is_object.ensures _)))
+returns c = sym (no-len c.args.self.now c.in_ok-node.node.now c.in_ok-node.ensures (sym (c.if-is_list.ensures _)) (sym (c.if-is_object.ensures _)))

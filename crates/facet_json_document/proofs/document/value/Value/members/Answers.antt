@@ -17,7 +17,7 @@ pub returns-then-not-is_object-clause-nodes : goal.returns-then-not-is_object-cl
 returns-then-not-is_object-clause-nodes c = sym (no-member_nodes c.args.self.now _ c.in_ok-node.ensures (sym (c.if-not-is_object.ensures _)))
 
 pub returns-then-not-is_object-clause-values : goal.returns-then-not-is_object-clause-values
-returns-then-not-is_object-clause-values c = sym (ap (option_map pairs_list) (no-pairs c.args.self.now _ c.in_ok-node.ensures (sym (c.if-not-is_object.ensures _))))
+returns-then-not-is_object-clause-values c = sym (ap (option_map pairs_list) (no-pairs c.args.self.now c.in_ok-node.node.now c.in_ok-node.ensures (sym (c.if-not-is_object.ensures _))))
 
 pub returns-clause-nodes : goal.returns-clause-nodes
 returns-clause-nodes c =
