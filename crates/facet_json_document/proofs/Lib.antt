@@ -1,6 +1,7 @@
 pub mod AllTokens
 pub mod EventsUp
 pub mod LaidOut
+pub mod NodeBytes
 pub mod NodeTrees
 pub mod NodesBuilt
 pub mod NodesHeld

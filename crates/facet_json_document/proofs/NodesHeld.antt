@@ -5,14 +5,14 @@ use Rattle.std.proofs.lemmas.List.{length-map, length_push, set_past, get_or_app
 use Rattle.std.proofs.lemmas.List.Elements.{All-head, All-tail}
 use Rattle.std.proofs.lemmas.Option.{slice_get-get_or}
 use Rattle.facet_format.specs.Span.{span_at}
-use Rattle.facet_format.specs.Views.{span_of}
 use Rattle.facet_format.specs.declared.event.ScalarValue.{ScalarValue}
-use Rattle.facet_json_document.specs.Nodes.{Node, leaf, key, text_at, held_leaf, held_name, node_view, nodes_view}
+use Rattle.facet_json_document.specs.Nodes.{Node, leaf, key, text_at, held_leaf, held_name, node_of, node_view, nodes_view}
 use Rattle.facet_json_document.specs.Inner.Building.{closed_in}
-use Rattle.facet_json_document.specs.Inner.Held.{FindsHeld}
+use Rattle.facet_json_document.specs.Inner.Held.{FindsHeld, needed}
 use Rattle.facet_json_document.specs.declared.document.built.Opened.{Opened}
 use Rattle.facet_json_document.specs.declared.document.node.Node.{Node as RustNode}
-use Rattle.facet_json_document.specs.declared.document.node.Node.TheVariants as rust
+use Rattle.facet_json_document.specs.declared.document.node.NodeKind.{NodeKind}
+use Rattle.facet_json_document.specs.declared.document.node.NodeKind.TheVariants as kind
 
 -- the same value stands there
 still-there : (held : List ScalarValue) (more : ScalarValue) (at : ℕ) → at < length held → slice_get (held ++ more ∷ []) at ≡ slice_get held at
@@ -20,18 +20,18 @@ still-there held more at h =
     slice_get-get_or (held ++ more ∷ []) at more (omega (arith, h, length_push held more)) ∙ ap Some (get_or_append_left held (more ∷ []) more at h)
     ∙ sym (slice_get-get_or held at more h)
 
-one-view : (input : List ℕ) (held : List ScalarValue) (more : ScalarValue) (n : RustNode) → FindsHeld held n →
-    node_view input (held ++ more ∷ []) n ≡ node_view input held n
-one-view input held more (rust.Held at s) h = ap (λ o. leaf (text_at input (span_of s)) (held_leaf o)) (still-there held more at (omega (arith, h)))
-one-view input held more (rust.HeldKey at) h = ap (λ o. key (held_name o)) (still-there held more at (omega (arith, h)))
-one-view input held more _ h = refl
+one-view : (held : List ScalarValue) (more : ScalarValue) (k : NodeKind) (at : ℕ) (text : List ℕ) → needed k at ≤ length held →
+    node_of k (held ++ more ∷ []) at text ≡ node_of k held at text
+one-view held more kind.Held at text h = ap (λ o. leaf text (held_leaf o)) (still-there held more at (omega (arith, h)))
+one-view held more kind.HeldKey at text h = ap (λ o. key (held_name o)) (still-there held more at (omega (arith, h)))
+one-view held more _ at text h = refl
 
-pub same-views : (input : List ℕ) (held : List ScalarValue) (more : ScalarValue) (nodes : List RustNode) → All (FindsHeld held) nodes →
-    nodes_view input (held ++ more ∷ []) nodes ≡ nodes_view input held nodes
-same-views input held more [] h = refl
-same-views input held more (n ∷ nodes) h =
-    ap₂ (λ m l. m ∷ l) (one-view input held more n (All-head (FindsHeld held) n nodes h))
-    (same-views input held more nodes (All-tail (FindsHeld held) n nodes h))
+pub same-views : (held : List ScalarValue) (more : ScalarValue) (nodes : List RustNode) → All (FindsHeld held) nodes →
+    nodes_view (held ++ more ∷ []) nodes ≡ nodes_view held nodes
+same-views held more [] h = refl
+same-views held more (n ∷ nodes) h =
+    ap₂ (λ m l. m ∷ l) (one-view held more n.kind n.more n.text.now (All-head (FindsHeld held) n nodes h))
+    (same-views held more nodes (All-tail (FindsHeld held) n nodes h))
 
 -- A value that is pushed stands at the end.
 pub pushed-there : (held new : List ScalarValue) (x : ScalarValue) (at : ℕ) → at ≡ length held → new ≡ held ++ x ∷ [] →
@@ -48,21 +48,21 @@ between input offset end =
 -- The innermost container is closed.
 pub container-closed : (input : List ℕ) (held : List ScalarValue) (nodes put : List RustNode) (unclosed rest : List Opened) (o : Opened) (n : RustNode)
     (c : List ℕ → ℕ → Node) (end : ℕ) → unclosed ≡ rest ++ o ∷ [] → put ≡ set nodes o.index n →
-    node_view input held n ≡ c (text_at input (span_at o.offset (end - o.offset))) (length nodes - o.index) →
-    record { input = input; nodes = nodes_view input held put; unclosed = reverse rest } ≡ closed_in c end input (nodes_view input held nodes) (reverse unclosed)
+    node_view held n ≡ c (text_at input (span_at o.offset (end - o.offset))) (length nodes - o.index) →
+    record { input = input; nodes = nodes_view held put; unclosed = reverse rest } ≡ closed_in c end input (nodes_view held nodes) (reverse unclosed)
 container-closed input held nodes put unclosed rest o n c end e p v =
     let backwards : reverse unclosed ≡ o ∷ reverse rest = ap reverse e ∙ reverse-append rest (o ∷ []) in
     let own = v ∙ ap (λ t. c t (length nodes - o.index)) (between input o.offset end) in
-    let one = ap (nodes_view input held) p ∙ map-set (node_view input held) nodes o.index n ∙ ap (set (nodes_view input held nodes) o.index) own in
-    let all = one ∙ ap (λ k. set (nodes_view input held nodes) o.index (c (slice_range input o.offset end) (k - o.index))) (sym (length-map nodes (node_view input held))) in
-    ap (λ l. record { input = input; nodes = l; unclosed = reverse rest }) all ∙ sym (ap (closed_in c end input (nodes_view input held nodes)) backwards)
+    let one = ap (nodes_view held) p ∙ map-set (node_view held) nodes o.index n ∙ ap (set (nodes_view held nodes) o.index) own in
+    let all = one ∙ ap (λ k. set (nodes_view held nodes) o.index (c (slice_range input o.offset end) (k - o.index))) (sym (length-map nodes (node_view held))) in
+    ap (λ l. record { input = input; nodes = l; unclosed = reverse rest }) all ∙ sym (ap (closed_in c end input (nodes_view held nodes)) backwards)
 
 -- A container that has no node is none.
 pub none-closed : (input : List ℕ) (held : List ScalarValue) (nodes : List RustNode) (unclosed rest : List Opened) (o : Opened)
     (c : List ℕ → ℕ → Node) (end : ℕ) → unclosed ≡ rest ++ o ∷ [] → length nodes ≤ o.index →
-    record { input = input; nodes = nodes_view input held nodes; unclosed = reverse rest } ≡ closed_in c end input (nodes_view input held nodes) (reverse unclosed)
+    record { input = input; nodes = nodes_view held nodes; unclosed = reverse rest } ≡ closed_in c end input (nodes_view held nodes) (reverse unclosed)
 none-closed input held nodes unclosed rest o c end e h =
     let backwards : reverse unclosed ≡ o ∷ reverse rest = ap reverse e ∙ reverse-append rest (o ∷ []) in
-    let out = set_past (nodes_view input held nodes) o.index (c (slice_range input o.offset end) (length (nodes_view input held nodes) - o.index))
-    (omega (arith, h, length-map nodes (node_view input held))) in
-    ap (λ l. record { input = input; nodes = l; unclosed = reverse rest }) (sym out) ∙ sym (ap (closed_in c end input (nodes_view input held nodes)) backwards)
+    let out = set_past (nodes_view held nodes) o.index (c (slice_range input o.offset end) (length (nodes_view held nodes) - o.index))
+    (omega (arith, h, length-map nodes (node_view held))) in
+    ap (λ l. record { input = input; nodes = l; unclosed = reverse rest }) (sym out) ∙ sym (ap (closed_in c end input (nodes_view held nodes)) backwards)

@@ -6,6 +6,8 @@ use Rattle.std.proofs.lemmas.List.{drop-drop, drop_all, length-map}
 use Rattle.std.proofs.lemmas.Option.{slice_get-get_or}
 use Rattle.facet_format.specs.Event.{Scalar}
 use Rattle.facet_format.specs.Event as event
+use Rattle.facet_format.specs.NumberValue.{Number}
+use Rattle.facet_format.specs.NumberValue as numbers
 use Rattle.facet_format.specs.Views.{scalar_value_of}
 use Rattle.facet_format.specs.declared.event.ScalarValue.{ScalarValue}
 use Rattle.facet_json_core.specs.Told.{tree_of_scalar}
@@ -14,11 +16,12 @@ use Rattle.facet_json_grammar.specs.Tree as trees
 use Rattle.facet_json_tree.specs.Content.{as_list, as_pairs}
 use Rattle.facet_json_tree.specs.Lookup.{item, member}
 use Rattle.facet_json_tree.specs.Same.{same_bytes}
-use Rattle.facet_json_document.specs.Nodes.{Node, leaf, key, list, object, closing, nothing, inner_len, is_closing_node, is_leaf, is_key, is_list, is_object, items, members, list_items, object_members, last_named, value_beginning, first_value, values, len, trees_list, pairs_list, node_view, leaf_view, held_leaf, document_nodes, nodes_from, value_view, member_value}
+use Rattle.facet_json_document.specs.Nodes.{Node, leaf, key, list, object, closing, nothing, inner_len, is_closing_node, is_leaf, is_key, is_list, is_object, items, members, list_items, object_members, last_named, value_beginning, first_value, values, len, trees_list, pairs_list, node_of, small_if_any, leaf_view, held_leaf, document_nodes, nodes_from, value_view, member_value}
 use Rattle.facet_json_document.specs.Inner.Looking.{HoldsOthers, of_nothing, of_list, of_object, IsLeaf, HasLeaf, TellsLeaf, many, from, seen, trees_from, pairs_from, trees_at, pairs_at, NodeStands, IsItem, MemberStands}
 use Rattle.facet_json_document.specs.declared.document.node.Leaf.{Leaf as RustLeaf}
 use Rattle.facet_json_document.specs.declared.document.node.Node.{Node as RustNode}
-use Rattle.facet_json_document.specs.declared.document.node.Node.TheVariants as rust
+use Rattle.facet_json_document.specs.declared.document.node.NodeKind.{NodeKind}
+use Rattle.facet_json_document.specs.declared.document.node.NodeKind.TheVariants as rust
 use Rattle.facet_json_document.specs.declared.document.Document.{Document}
 use Rattle.facet_json_document.specs.declared.document.value.Value.{Value}
 use Rattle.facet_json_document.proofs.NodeTrees.{items-skip, members-skip, item-trees, member-trees, item_at-from, last-from, trees_list-from, pairs_list-from}
@@ -109,17 +112,34 @@ held-pairs : (o : Option ScalarValue) → as_pairs (held_leaf o) ≡ None
 held-pairs None = refl
 held-pairs (Some s) = scalar-pairs (scalar_value_of s)
 
-other-list : (input : List ℕ) (held : List ScalarValue) (n : RustNode) (later : List (Node × Tree)) → is_list (node_view input held n) ≡ false →
-    as_list (value_beginning (node_view input held n) later) ≡ None
-other-list input held (rust.Held at s) later e = held-list (slice_get held at)
-other-list input held (rust.List k s) later e = cc
-other-list input held _ later e = refl
+-- a number's bytes are neither
+small-list : (o : Option Number) → as_list (small_if_any o) ≡ None
+small-list None = refl
+small-list (Some (numbers.u64 n)) = refl
+small-list (Some (numbers.i64 n)) = refl
+small-list (Some (numbers.decimal digits)) = refl
+small-list (Some _) = refl
 
-other-pairs : (input : List ℕ) (held : List ScalarValue) (n : RustNode) (later : List (Node × Tree)) → is_object (node_view input held n) ≡ false →
-    as_pairs (value_beginning (node_view input held n) later) ≡ None
-other-pairs input held (rust.Held at s) later e = held-pairs (slice_get held at)
-other-pairs input held (rust.Object k s) later e = cc
-other-pairs input held _ later e = refl
+small-pairs : (o : Option Number) → as_pairs (small_if_any o) ≡ None
+small-pairs None = refl
+small-pairs (Some (numbers.u64 n)) = refl
+small-pairs (Some (numbers.i64 n)) = refl
+small-pairs (Some (numbers.decimal digits)) = refl
+small-pairs (Some _) = refl
+
+other-list : (k : NodeKind) (held : List ScalarValue) (more : ℕ) (text : List ℕ) (later : List (Node × Tree)) → is_list (node_of k held more text) ≡ false →
+    as_list (value_beginning (node_of k held more text) later) ≡ None
+other-list rust.Held held more text later e = held-list (slice_get held more)
+other-list rust.Number held more text later e = small-list _
+other-list rust.List held more text later e = cc
+other-list _ held more text later e = refl
+
+other-pairs : (k : NodeKind) (held : List ScalarValue) (more : ℕ) (text : List ℕ) (later : List (Node × Tree)) → is_object (node_of k held more text) ≡ false →
+    as_pairs (value_beginning (node_of k held more text) later) ≡ None
+other-pairs rust.Held held more text later e = held-pairs (slice_get held more)
+other-pairs rust.Number held more text later e = small-pairs _
+other-pairs rust.Object held more text later e = cc
+other-pairs _ held more text later e = refl
 
 a-list : (n : Node) → is_list n ≡ true → (text : List ℕ) × (inner : ℕ) × (n ≡ list text inner)
 a-list (list text k) e = (text, k, refl)
@@ -146,10 +166,10 @@ pub object-of : (v : Value) (n : Node) → NodeStands v v.index n → is_object 
 object-of v n s e = ap first_value (object-here v n s e).2 ∙ ap trees.pairs (member-trees 0 (from v (suc v.index)))
 
 pub no-list : (v : Value) (n : RustNode) → NodeStands v v.index (seen v n) → is_list (seen v n) ≡ false → as_list (value_view v) ≡ None
-no-list v n s e = ap as_list (value-stands v (seen v n) s) ∙ other-list _ _ n _ e
+no-list v n s e = ap as_list (value-stands v (seen v n) s) ∙ other-list n.kind _ n.more n.text.now _ e
 
 pub no-pairs : (v : Value) (n : RustNode) → NodeStands v v.index (seen v n) → is_object (seen v n) ≡ false → as_pairs (value_view v) ≡ None
-no-pairs v n s e = ap as_pairs (value-stands v (seen v n) s) ∙ other-pairs _ _ n _ e
+no-pairs v n s e = ap as_pairs (value-stands v (seen v n) s) ∙ other-pairs n.kind _ n.more n.text.now _ e
 
 no_list-item : (t : Tree) (i : ℕ) → as_list t ≡ None → item i t ≡ None
 no_list-item (trees.list ts) i e = cc

@@ -4,3 +4,4 @@ pub mod Checking
 pub mod Held
 pub mod Layout
 pub mod Looking
+pub mod NodeSound

@@ -5,9 +5,12 @@ use Rattle.std.specs.Borrow.{Bor}
 use Rattle.std.specs.Option.{unwrap_or, option_or, option_and_then}
 use Rattle.facet_format.specs.Event.{Scalar, bytes_of}
 use Rattle.facet_format.specs.Event as event
-use Rattle.facet_format.specs.Span.{Span, span_at, stop}
+use Rattle.facet_format.specs.NumberParts.{parts, parts_hint}
+use Rattle.facet_format.specs.NumberValue.{Number}
+use Rattle.facet_format.specs.NumberValue as numbers
+use Rattle.facet_format.specs.Span.{Span, stop}
 use Rattle.facet_format.specs.declared.event.ScalarValue.{ScalarValue}
-use Rattle.facet_format.specs.Views.{scalar_value_of, span_of}
+use Rattle.facet_format.specs.Views.{scalar_value_of}
 use Rattle.facet_json_token.specs.Token.{Token}
 use Rattle.facet_json_core.specs.Told.{tree_of_scalar}
 use Rattle.facet_json_grammar.specs.Meaning.{meaning, text_in_tree}
@@ -16,8 +19,10 @@ use Rattle.facet_json_grammar.specs.Tree.{Tree, Trees, no_trees, tree, Pairs, no
 use Rattle.facet_json_grammar.specs.Tree as trees
 use Rattle.facet_json_tree.specs.Pointer.{index}
 use Rattle.facet_json_tree.specs.Same.{same_bytes}
+use Rattle.facet_json_document.specs.QuotedText.{quoted}
 use Rattle.facet_json_document.specs.declared.document.node.Node.{Node as RustNode}
-use Rattle.facet_json_document.specs.declared.document.node.Node.TheVariants as rust
+use Rattle.facet_json_document.specs.declared.document.node.NodeKind.{NodeKind}
+use Rattle.facet_json_document.specs.declared.document.node.NodeKind.TheVariants as rust
 use Rattle.facet_json_document.specs.declared.document.node.Leaf.{Leaf as RustLeaf}
 use Rattle.facet_json_document.specs.declared.document.node.Leaf.TheVariants as leaves
 use Rattle.facet_json_document.specs.declared.document.node.ValueKind.{ValueKind}
@@ -224,7 +229,22 @@ len _ = None
 
 -- ---- what the types of the code stand for
 
--- a value that no node holds itself
+-- a number that a document has as a number; others are none
+abbrev pub small_number : Number → Tree
+small_number (numbers.u64 n) = trees.u64 n
+small_number (numbers.i64 n) = trees.i64 n
+small_number (numbers.decimal digits) = trees.decimal digits
+small_number _ = nothing
+
+abbrev pub small_if_any : Option Number → Tree
+small_if_any None = nothing
+small_if_any (Some n) = small_number n
+
+-- the number that bytes are
+abbrev pub number_tree : List ℕ → Tree
+number_tree text = small_if_any (numbers.number text (parts_hint (parts text)))
+
+-- a value that no node tells by its bytes
 abbrev pub held_leaf : Option ScalarValue → Tree
 held_leaf None = nothing
 held_leaf (Some s) = unwrap_or (tree_of_scalar (scalar_value_of s)) nothing
@@ -233,24 +253,27 @@ abbrev pub text_held : Scalar → List ℕ
 text_held (event.text t) = bytes_of t
 text_held _ = []
 
--- a name that no node holds itself
+-- a name that no node tells by its bytes
 abbrev pub held_name : Option ScalarValue → List ℕ
 held_name None = []
 held_name (Some s) = text_held (scalar_value_of s)
 
--- a node, beside the input and what no node holds itself; a text in the input has a quote on either side
-abbrev pub node_view : List ℕ → List ScalarValue → RustNode → Node
-node_view input held (rust.Null s) = leaf (text_at input (span_of s)) trees.null
-node_view input held (rust.Bool b s) = leaf (text_at input (span_of s)) (trees.bool b)
-node_view input held (rust.I64 n s) = leaf (text_at input (span_of s)) (trees.i64 n)
-node_view input held (rust.U64 n s) = leaf (text_at input (span_of s)) (trees.u64 n)
-node_view input held (rust.Text t start) = leaf (text_at input (span_at start (length t.now + 2))) (trees.text t.now)
-node_view input held (rust.Held at s) = leaf (text_at input (span_of s)) (held_leaf (slice_get held at))
-node_view input held (rust.Key name) = key name.now
-node_view input held (rust.HeldKey at) = key (held_name (slice_get held at))
-node_view input held (rust.List n s) = list (text_at input (span_of s)) n
-node_view input held (rust.Object n s) = object (text_at input (span_of s)) n
-node_view input held rust.End = closing
+-- a node of that kind with these bytes, beside what no node tells by its bytes; a text and a key have a quote on either side
+abbrev pub node_of : NodeKind → List ScalarValue → ℕ → List ℕ → Node
+node_of rust.Null held more text = leaf text trees.null
+node_of rust.True held more text = leaf text (trees.bool true)
+node_of rust.False held more text = leaf text (trees.bool false)
+node_of rust.Number held more text = leaf text (number_tree text)
+node_of rust.Text held more text = leaf text (trees.text (quoted text))
+node_of rust.Held held at text = leaf text (held_leaf (slice_get held at))
+node_of rust.Key held more text = key (quoted text)
+node_of rust.HeldKey held at text = key (held_name (slice_get held at))
+node_of rust.List held more text = list text more
+node_of rust.Object held more text = object text more
+node_of rust.End held more text = closing
+
+abbrev pub node_view : List ScalarValue → RustNode → Node
+node_view held n = node_of n.kind held n.more n.text.now
 
 -- a value that holds no others
 abbrev pub leaf_view : RustLeaf → Tree
@@ -258,16 +281,16 @@ leaf_view leaves.Null = trees.null
 leaf_view (leaves.Bool b) = trees.bool b
 leaf_view (leaves.I64 n) = trees.i64 n
 leaf_view (leaves.U64 n) = trees.u64 n
-leaf_view (leaves.Decimal d) = trees.decimal (bytes_of d.now)
+leaf_view (leaves.Decimal d) = trees.decimal (bytes_of d)
 leaf_view (leaves.Text t) = trees.text t.now
 leaf_view leaves.Other = nothing
 
-abbrev pub nodes_view : List ℕ → List ScalarValue → List RustNode → List Node
-nodes_view input held nodes = map (node_view input held) nodes
+abbrev pub nodes_view : List ScalarValue → List RustNode → List Node
+nodes_view held nodes = map (node_view held) nodes
 
 -- the nodes of a document, and its value
 abbrev pub document_nodes : Document → List Node
-document_nodes d = nodes_view d.input.now d.held.items d.nodes.items
+document_nodes d = nodes_view d.held.items d.nodes.items
 
 abbrev pub document_view : Document → Tree
 document_view d = first_value (document_nodes d)

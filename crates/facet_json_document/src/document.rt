@@ -38,22 +38,16 @@ pub use value::Value;
 
 /// A document in one list of nodes. Texts without escapes lie in the input.
 pub struct Document<'i> {
-    /// The bytes of which it was read.
-    input: &'i [u8],
-    /// A node for each value, key and container's end, in the order in which they stand.
+    /// A node for each value, key and container's end, in the order in which they stand. Each has its bytes in the input.
     nodes: Vec<Node<'i>>,
-    /// What no node holds itself: decimals, texts and names with escapes, and numbers past 64 bits.
+    /// What no node tells by its bytes: texts and names with escapes, and numbers past 64 bits.
     held: Vec<ScalarValue<'i>>,
 }
 
 /// By a call, so that a proof about a function that owns a document need not take it apart.
 impl Drop for Document<'_> {
     fn drop(self) {
-        let Document {
-            input: _,
-            nodes: _,
-            held: _,
-        } = self;
+        let Document { nodes: _, held: _ } = self;
     }
 }
 
@@ -129,7 +123,7 @@ impl<'i> Document<'i> {
         ensures within { IfErr result (λ e. RefusalWithin input.now (refusal_of e)) }
     {
         let (nodes, held) = strict_nodes(alloc, input, None)?;
-        Ok(Document { input, nodes, held })
+        Ok(Document { nodes, held })
     }
 
     /// Reads as `parse`, where the document nests no deeper than `depth`, as `tree_from_slice_within` does: an array or object counts one,
@@ -217,7 +211,7 @@ impl<'i> Document<'i> {
         ensures within { IfErr result (λ e. RefusalWithin input.now (refusal_of e)) }
     {
         let (nodes, held) = strict_nodes(alloc, input, Some(depth))?;
-        Ok(Document { input, nodes, held })
+        Ok(Document { nodes, held })
     }
 
     /// Reads as `parse`, with these gaps between tokens.
@@ -235,7 +229,7 @@ impl<'i> Document<'i> {
         ensures within { IfErr result (λ e. RefusalWithin input.now (refusal_of e)) }
     {
         let (nodes, held) = lenient_nodes(alloc, input, mode, None)?;
-        Ok(Document { input, nodes, held })
+        Ok(Document { nodes, held })
     }
 
     /// Reads as `parse_within`, with these gaps between tokens.
@@ -259,7 +253,7 @@ impl<'i> Document<'i> {
         ensures within { IfErr result (λ e. RefusalWithin input.now (refusal_of e)) }
     {
         let (nodes, held) = lenient_nodes(alloc, input, mode, Some(depth))?;
-        Ok(Document { input, nodes, held })
+        Ok(Document { nodes, held })
     }
 
     /// The document's value.
@@ -282,7 +276,7 @@ fn lenient_nodes<'i, 't>(
     mode: Mode,
     depth: Option<usize>,
 ) -> Result<(Vec<Node<'i>>, Vec<ScalarValue<'i>>), DeserializeError<'t>>
-    ensures nodes { IfOk result (λ v. AddsAll (fresh input.now (mode_of mode)) (nodes_view input.now v.1.items v.0.items)) }
+    ensures nodes { IfOk result (λ v. AddsAll (fresh input.now (mode_of mode)) (nodes_view v.1.items v.0.items)) }
     ensures shallow { OnOk result (beyond (future_of (fresh input.now (mode_of mode))) depth ≡ None) }
     ensures refused { IfErr result
         (λ e. LacksMemory (refusal_of e) ⊎ GetsStuckWithin depth (fresh input.now (mode_of mode)) (refusal_of e)) }
@@ -297,7 +291,7 @@ fn strict_nodes<'i, 't>(
     input: &'i [u8],
     depth: Option<usize>,
 ) -> Result<(Vec<Node<'i>>, Vec<ScalarValue<'i>>), DeserializeError<'t>>
-    ensures nodes { IfOk result (λ v. AddsAll (fresh_in input.now (strict plain)) (nodes_view input.now v.1.items v.0.items)) }
+    ensures nodes { IfOk result (λ v. AddsAll (fresh_in input.now (strict plain)) (nodes_view v.1.items v.0.items)) }
     ensures shallow { OnOk result (beyond (future_of (fresh_in input.now (strict plain))) depth ≡ None) }
     ensures refused { IfErr result
         (λ e. LacksMemory (refusal_of e) ⊎ GetsStuckWithin depth (fresh_in input.now (strict plain)) (refusal_of e)) }

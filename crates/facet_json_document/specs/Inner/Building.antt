@@ -64,7 +64,11 @@ container rust.Array = list
 container rust.Object = object
 
 abbrev pub built_view : Built → NodesSoFar
-built_view b = record { input = b.input.now; nodes = nodes_view b.input.now b.held.items b.nodes.items; unclosed = reverse b.unclosed.items }
+built_view b = record { input = b.input.now; nodes = nodes_view b.held.items b.nodes.items; unclosed = reverse b.unclosed.items }
+
+-- The nodes are as they were, and as many containers may be opened.
+abbrev pub Kept : Built → Built → Type 0
+Kept old new = (built_view new ≡ built_view old) × (new.room ≡ old.room)
 
 -- The next event was passed and its node added, or the end was told.
 abbrev pub AddsNext : Bool → Now → Now → NodesSoFar → NodesSoFar → Type 0

@@ -2,13 +2,14 @@
 use Rattle.std.specs.Prelude.{◌≤◌, ℕ, zero, suc, List, length}
 use Rattle.facet_format.specs.declared.event.ScalarValue.{ScalarValue}
 use Rattle.facet_json_document.specs.declared.document.node.Node.{Node}
-use Rattle.facet_json_document.specs.declared.document.node.Node.TheVariants as node
+use Rattle.facet_json_document.specs.declared.document.node.NodeKind.{NodeKind}
+use Rattle.facet_json_document.specs.declared.document.node.NodeKind.TheVariants as kind
 
--- how many values have to be held, so that the node finds its own
-abbrev pub needed : Node → ℕ
-needed (node.Held at s) = suc at
-needed (node.HeldKey at) = suc at
-needed _ = zero
+-- how many values have to be held, so that a node of that kind finds the one at this index
+abbrev pub needed : NodeKind → ℕ → ℕ
+needed kind.Held at = suc at
+needed kind.HeldKey at = suc at
+needed _ at = zero
 
 abbrev pub FindsHeld : List ScalarValue → Node → Type 0
-FindsHeld held n = needed n ≤ length held
+FindsHeld held n = needed n.kind n.more ≤ length held

@@ -37,7 +37,7 @@ from v at = drop at (document_nodes v.document.now)
 
 -- a node of a document
 abbrev pub seen_in : Document → RustNode → Node
-seen_in d n = node_view d.input.now d.held.items n
+seen_in d n = node_view d.held.items n
 
 abbrev pub seen : Value → RustNode → Node
 seen v n = seen_in v.document.now n

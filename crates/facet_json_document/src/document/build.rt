@@ -1,6 +1,6 @@
 //! Nodes of events.
 
-ghost use Rattle.std.specs.Prelude.{◌≡◌, ◌<◌, ◌≤◌, ◌⊎◌, ℕ, List, Err, true, false, Ok, Option, None, Some, IfOk, IfErr, IfSome, OnOk};
+ghost use Rattle.std.specs.Prelude.{◌≡◌, ◌<◌, ◌≤◌, ◌⊎◌, ℕ, List, Err, true, false, Ok, Option, None, Some, IfOk, IfErr, IfSome, OnOk, OnErr};
 ghost use Rattle.std.specs.Prelude.{MatchResult, length, reverse, set, slice_get};
 ghost use Rattle.facet_format.specs.Complaint.{no_memory};
 ghost use Rattle.facet_format.specs.Cursor.{event, next};
@@ -14,7 +14,7 @@ ghost use Rattle.facet_format.specs.HeldText.{text_of};
 ghost use Rattle.facet_format.specs.declared.event.ScalarValue.{ScalarValue as RustScalar};
 ghost use Rattle.facet_json_core.specs.Told.{tree_of_scalar};
 ghost use Rattle.facet_json_grammar.specs.Tree as trees;
-ghost use Rattle.facet_json_document.specs.Inner.Building.{added, also, begun, closed, container, ended, built_view, none_yet, AddsNext};
+ghost use Rattle.facet_json_document.specs.Inner.Building.{added, also, begun, closed, container, ended, built_view, none_yet, AddsNext, Kept};
 ghost use Rattle.facet_json_document.specs.Inner.Building.{AddsAll, LeavesRoom, IsTooDeep, RefusesNext};
 ghost use Rattle.facet_json_tree.specs.Depth.{beyond_bracket, outer, too_deep_at, beyond};
 ghost use Rattle.facet_json_tree.specs.Inner.Beyond.{SameBeyond};
@@ -24,10 +24,11 @@ ghost use Rattle.facet_json_grammar.specs.Now.{ahead, future_of};
 ghost use Rattle.facet_json_grammar.specs.UnreadLaws.{RefusalWithin};
 ghost use Rattle.facet_json_document.specs.Formatted.{GetsStuckWithin};
 ghost use Rattle.facet_json_document.specs.Nodes.{Node as SpecNode, leaf, key, list, object, closing, nothing, node_view, nodes_view};
-ghost use Rattle.facet_json_document.specs.Nodes.{text_at};
+ghost use Rattle.facet_json_document.specs.Nodes.{text_at, number_tree};
+ghost use Rattle.facet_json_document.specs.QuotedText.{IsQuotedText, quoted};
 
 use crate::document::built::{Built, Opened};
-use crate::document::node::Node;
+use crate::document::node::{Node, NodeKind};
 use facet_format::{
     ContainerKind, DeserializeError, DeserializeErrorKind, FormatParser, ParseEventKind,
     ScalarValue, Span,
@@ -47,7 +48,7 @@ pub(crate) fn build<'i, 't>(
     depth: Option<usize>,
 ) -> Result<(Vec<Node<'i>>, Vec<ScalarValue<'i>>), DeserializeError<'t>>
     requires { parser.old.buffer ≡ input.now }
-    ensures nodes { IfOk result (λ v. AddsAll parser.old (nodes_view input.now v.1.items v.0.items)) }
+    ensures nodes { IfOk result (λ v. AddsAll parser.old (nodes_view v.1.items v.0.items)) }
     ensures shallow { OnOk result (beyond (future_of parser.old) depth ≡ None) }
     ensures refused { parser.old.cursor.refusal ≡ None
         → IfErr result (λ e. LacksMemory (refusal_of e) ⊎ GetsStuckWithin depth parser.old (refusal_of e)) }
@@ -90,7 +91,7 @@ impl<'i> Built<'i> {
     ///
     /// # Errors
     ///
-    /// A bracket where no more may be opened: `InvalidValue`, its span the bracket's. Or out of memory.
+    /// A bracket where no more may be opened: `InvalidValue`, its span the bracket's. Or out of memory. The nodes are then as they were.
     #[inline(always)]
     fn add<'t>(&mut self, kind: ParseEventKind<'i>, span: Span) -> Result<(), DeserializeError<'t>>
         requires { stop (span_of span) ≤ length self.old.input.now }
@@ -99,111 +100,192 @@ impl<'i> Built<'i> {
         ensures refused { IfErr result
             (λ e. LacksMemory (refusal_of e) ⊎ IsTooDeep self.old.room (event_kind_of kind.entry) (span_of span) (refusal_of e)) }
         ensures span { IfErr result (λ e. IfSome e.span (λ s. s ≡ span)) }
+        ensures kept { OnErr result (Kept self.old self.new) }
     {
         match kind {
             ParseEventKind::Scalar(value) => self.add_leaf(value, span)?,
             ParseEventKind::FieldKey(key) => self.add_key(key.name)?,
-            ParseEventKind::SequenceStart(_) => self.begin(Node::List(0, span), span)?,
-            ParseEventKind::StructStart(_) => self.begin(Node::Object(0, span), span)?,
+            ParseEventKind::SequenceStart(_) => self.begin(ContainerKind::Array, span)?,
+            ParseEventKind::StructStart(_) => self.begin(ContainerKind::Object, span)?,
             ParseEventKind::SequenceEnd => self.end(ContainerKind::Array, span)?,
             ParseEventKind::StructEnd => self.end(ContainerKind::Object, span)?,
         }
         Ok(())
     }
 
-    /// Adds the node of a value that holds no others.
+    /// Adds the node of an event's value that holds no others. No event says that its number or text is what its bytes say, so the
+    /// document holds these beside its nodes.
     #[inline(always)]
     fn add_leaf(&mut self, value: ScalarValue<'i>, span: Span) -> Result<(), AllocError>
         ensures room { self.new.room ≡ self.old.room }
         ensures node { OnOk result (built_view self.new
             ≡ also (leaf (text_at self.old.input.now (span_of span)) (unwrap_or (tree_of_scalar (scalar_value_of value.entry)) nothing))
             (built_view self.old)) }
+        ensures kept { OnErr result (Kept self.old self.new) }
     {
+        let text = bytes_of_span(self.input, span);
         match value {
-            ScalarValue::Null => self.also(Node::Null(span)),
-            ScalarValue::Bool(b) => self.also(Node::Bool(b, span)),
-            ScalarValue::I64(n) => self.also(Node::I64(n, span)),
-            ScalarValue::U64(n) => self.also(Node::U64(n, span)),
-            ScalarValue::Str(CowStr::Borrowed(text)) => self.add_text(text, span),
-            other => self.add_held(other, span),
+            ScalarValue::Null => self.add_null(text),
+            ScalarValue::Bool(b) => self.add_bool(b, text),
+            other => self.add_held(other, text),
         }
     }
 
-    /// Adds the node of a text in the input. Between its quotes it is as long as the bytes that it stands for, so that the node need not
-    /// tell.
+    /// Adds the node of a `null` with these bytes.
     #[inline(always)]
-    fn add_text(&mut self, text: &'i str, span: Span) -> Result<(), AllocError>
+    fn add_null(&mut self, text: &'i [u8]) -> Result<(), AllocError>
         ensures room { self.new.room ≡ self.old.room }
-        ensures node { OnOk result (built_view self.new
-            ≡ also (leaf (text_at self.old.input.now (span_of span)) (trees.text text.now)) (built_view self.old)) }
+        ensures node { OnOk result (built_view self.new ≡ also (leaf text.now trees.null) (built_view self.old)) }
+        ensures kept { OnErr result (Kept self.old self.new) }
     {
-        if text.len() + 2 == span.len {
-            self.also(Node::Text(text, span.offset))
+        self.also(Node {
+            kind: NodeKind::Null,
+            more: 0,
+            text,
+        })
+    }
+
+    /// Adds the node of a truth value with these bytes.
+    #[inline(always)]
+    fn add_bool(&mut self, value: bool, text: &'i [u8]) -> Result<(), AllocError>
+        ensures room { self.new.room ≡ self.old.room }
+        ensures node { OnOk result (built_view self.new ≡ also (leaf text.now (trees.bool value)) (built_view self.old)) }
+        ensures kept { OnErr result (Kept self.old self.new) }
+    {
+        if value {
+            self.also(Node {
+                kind: NodeKind::True,
+                more: 0,
+                text,
+            })
         } else {
-            self.add_held(ScalarValue::Str(CowStr::Borrowed(text)), span)
+            self.also(Node {
+                kind: NodeKind::False,
+                more: 0,
+                text,
+            })
         }
     }
 
-    /// Adds the node of a value that no node holds itself.
+    /// Adds the node of the number that these bytes are.
     #[inline(always)]
-    fn add_held(&mut self, value: ScalarValue<'i>, span: Span) -> Result<(), AllocError>
+    fn add_number(&mut self, text: &'i [u8]) -> Result<(), AllocError>
+        ensures room { self.new.room ≡ self.old.room }
+        ensures node { OnOk result (built_view self.new ≡ also (leaf text.now (number_tree text.now)) (built_view self.old)) }
+        ensures kept { OnErr result (Kept self.old self.new) }
+    {
+        self.also(Node {
+            kind: NodeKind::Number,
+            more: 0,
+            text,
+        })
+    }
+
+    /// Adds the node of the text in quotes that these bytes are.
+    #[inline(always)]
+    fn add_text(&mut self, text: &'i [u8]) -> Result<(), AllocError>
+        requires { IsQuotedText text.now }
+        ensures room { self.new.room ≡ self.old.room }
+        ensures node { OnOk result (built_view self.new ≡ also (leaf text.now (trees.text (quoted text.now))) (built_view self.old)) }
+        ensures kept { OnErr result (Kept self.old self.new) }
+    {
+        self.also(Node {
+            kind: NodeKind::Text,
+            more: 0,
+            text,
+        })
+    }
+
+    /// Adds the node of the member's name in quotes that these bytes are.
+    #[inline(always)]
+    fn add_name(&mut self, text: &'i [u8]) -> Result<(), AllocError>
+        requires { IsQuotedText text.now }
+        ensures room { self.new.room ≡ self.old.room }
+        ensures node { OnOk result (built_view self.new ≡ also (key (quoted text.now)) (built_view self.old)) }
+        ensures kept { OnErr result (Kept self.old self.new) }
+    {
+        self.also(Node {
+            kind: NodeKind::Key,
+            more: 0,
+            text,
+        })
+    }
+
+    /// Adds the node of a value that its bytes, which are these, do not tell.
+    #[inline(always)]
+    fn add_held(&mut self, value: ScalarValue<'i>, text: &'i [u8]) -> Result<(), AllocError>
         ensures room { self.new.room ≡ self.old.room }
         ensures node { OnOk result (built_view self.new
-            ≡ also (leaf (text_at self.old.input.now (span_of span)) (unwrap_or (tree_of_scalar (scalar_value_of value.entry)) nothing))
-            (built_view self.old)) }
+            ≡ also (leaf text.now (unwrap_or (tree_of_scalar (scalar_value_of value.entry)) nothing)) (built_view self.old)) }
+        ensures kept { OnErr result (Kept self.old self.new) }
     {
         let at = self.hold(value)?;
-        self.also(Node::Held(at, span))
+        self.also(Node {
+            kind: NodeKind::Held,
+            more: at,
+            text,
+        })
     }
 
-    /// Adds the node of a member's name.
+    /// Adds the node of an event's name of a member.
     #[inline(always)]
     fn add_key(&mut self, name: CowStr<'i>) -> Result<(), AllocError>
         ensures room { self.new.room ≡ self.old.room }
         ensures node { OnOk result (built_view self.new ≡ also (key (bytes_of (text_of name.entry))) (built_view self.old)) }
+        ensures kept { OnErr result (Kept self.old self.new) }
     {
-        match name {
-            CowStr::Borrowed(text) => self.also(Node::Key(text)),
-            owned => {
-                let at = self.hold(ScalarValue::Str(owned))?;
-                self.also(Node::HeldKey(at))
-            }
-        }
+        let at = self.hold(ScalarValue::Str(name))?;
+        self.also(Node {
+            kind: NodeKind::HeldKey,
+            more: at,
+            text: &[],
+        })
     }
 
     /// Holds a value beside the nodes, and returns its index.
     #[inline(always)]
-    fn hold(&mut self, value: ScalarValue<'i>) -> Result<usize, AllocError>
-        ensures same { OnOk result (built_view self.new ≡ built_view self.old) }
+    fn hold(&mut self, value: ScalarValue<'i>) -> Result<u32, AllocError>
+        ensures same { built_view self.new ≡ built_view self.old }
         ensures room { self.new.room ≡ self.old.room }
         ensures held { IfOk result (λ at. (at < length self.new.held.items) × (slice_get self.new.held.items at ≡ Some value.entry)) }
     {
-        let at = self.held.len();
+        let at = in_32_bits(self.held.len())?;
         self.held.push(value)?;
         Ok(at)
     }
 
     /// Adds the node of a container that begins with this bracket.
+    ///
+    /// # Errors
+    ///
+    /// As `add`.
     #[inline(always)]
-    fn begin<'t>(&mut self, node: Node<'i>, first: Span) -> Result<(), DeserializeError<'t>>
-        requires { FindsHeld self.old.held.items node }
+    fn begin<'t>(&mut self, kind: ContainerKind, first: Span) -> Result<(), DeserializeError<'t>>
         ensures begun { OnOk result
-            (built_view self.new ≡ begun first.offset (node_view self.old.input.now self.old.held.items node.entry) (built_view self.old)) }
+            (built_view self.new ≡ begun first.offset (container kind (text_at self.old.input.now (span_of first)) 0) (built_view self.old)) }
         ensures left { OnOk result
             ((others : Option ℕ → Option SpecSpan) → beyond_bracket (span_of first) others self.old.room ≡ others self.new.room) }
         ensures refused { IfErr result
             (λ e. LacksMemory (refusal_of e) ⊎ ((self.old.room ≡ Some 0) × (refusal_of e ≡ too_deep_at (span_of first)))) }
         ensures span { IfErr result (λ e. IfSome e.span (λ s. s ≡ first)) }
+        ensures kept { OnErr result (Kept self.old self.new) }
     {
-        self.room = room_within(first, self.room)?;
+        let room = room_within(first, self.room)?;
+        self.reserve()?;
+        self.reserve_opened()?;
         let index = self.nodes.len();
         let offset = first.offset;
-        self.unclosed.push(Opened { index, offset })?;
-        self.also(node)?;
+        self.unclosed.push_reserved(Opened { index, offset });
+        self.push(container_node(kind, 0, bytes_of_span(self.input, first)));
+        self.room = room;
         Ok(())
     }
 
     /// Adds the node of the innermost container's end, which is this token.
+    ///
+    /// # Errors
+    ///
+    /// Out of memory: the nodes are then as they were.
     #[inline(always)]
     fn end<'t>(&mut self, kind: ContainerKind, last: Span) -> Result<(), DeserializeError<'t>>
         requires { stop (span_of last) ≤ length self.old.input.now }
@@ -211,28 +293,48 @@ impl<'i> Built<'i> {
         ensures left { OnOk result (self.new.room ≡ outer self.old.room) }
         ensures refused { IfErr result (λ e. refusal_of e ≡ no_memory) }
         ensures span { IfErr result (λ e. IfSome e.span (λ s. s ≡ last)) }
+        ensures kept { OnErr result (Kept self.old self.new) }
     {
-        self.room = room_behind(self.room)?;
-        self.close(kind, last);
-        self.also(Node::End)?;
+        let room = room_behind(self.room)?;
+        self.reserve()?;
+        self.close(kind, last)?;
+        self.push(Node {
+            kind: NodeKind::End,
+            more: 0,
+            text: &[],
+        });
+        self.room = room;
         Ok(())
     }
 
-    /// Takes the innermost container off those that are not closed, and writes into its node where it stands and how many belong to it.
+    /// Takes the innermost container off those that are not closed, and writes into its node which bytes it has and how many nodes belong
+    /// to it.
     #[inline(always)]
-    fn close(&mut self, kind: ContainerKind, last: Span)
+    fn close(&mut self, kind: ContainerKind, last: Span) -> Result<(), AllocError>
         requires { stop (span_of last) ≤ length self.old.input.now }
-        ensures closed { built_view self.new ≡ closed (container kind) (stop (span_of last)) (built_view self.old) }
+        ensures closed { OnOk result (built_view self.new ≡ closed (container kind) (stop (span_of last)) (built_view self.old)) }
+        ensures kept { OnErr result (built_view self.new ≡ built_view self.old) }
         ensures room { self.new.room ≡ self.old.room }
+        ensures spare { vec_len self.old.nodes < vec_capacity self.old.nodes → vec_len self.new.nodes < vec_capacity self.new.nodes }
     {
         let Some(opened) = self.unclosed.pop() else {
-            return;
+            return Ok(());
         };
         let len = self.nodes.len();
-        if opened.index < len {
-            let span = Span::new(opened.offset, last.end().saturating_sub(opened.offset));
-            let node = container_node(kind, len - opened.index, span);
-            put(&mut self.nodes, opened.index, node);
+        if len <= opened.index {
+            return Ok(());
+        }
+        match in_32_bits(len - opened.index) {
+            Ok(inner) => {
+                let span = Span::new(opened.offset, last.end().saturating_sub(opened.offset));
+                let node = container_node(kind, inner, bytes_of_span(self.input, span));
+                put(&mut self.nodes, opened.index, node);
+                Ok(())
+            }
+            Err(error) => {
+                self.unclosed.push_reserved(opened);
+                Err(error)
+            }
         }
     }
 
@@ -240,14 +342,51 @@ impl<'i> Built<'i> {
     #[inline(always)]
     fn also(&mut self, node: Node<'i>) -> Result<(), AllocError>
         requires { FindsHeld self.old.held.items node }
-        ensures node { OnOk result
-            (built_view self.new ≡ also (node_view self.old.input.now self.old.held.items node.entry) (built_view self.old)) }
+        ensures node { OnOk result (built_view self.new ≡ also (node_view self.old.held.items node.entry) (built_view self.old)) }
+        ensures kept { OnErr result (Kept self.old self.new) }
         ensures room { self.new.room ≡ self.old.room }
+    {
+        self.reserve()?;
+        self.push(node);
+        Ok(())
+    }
+
+    /// Adds a node, for which there is room.
+    #[inline(always)]
+    fn push(&mut self, node: Node<'i>)
+        requires finds { FindsHeld self.old.held.items node }
+        requires spare { vec_len self.old.nodes < vec_capacity self.old.nodes }
+        ensures node { built_view self.new ≡ also (node_view self.old.held.items node.entry) (built_view self.old) }
+        ensures room { self.new.room ≡ self.old.room }
+    {
+        self.nodes.push_reserved(node);
+    }
+
+    /// Sees to it that there is room for another node.
+    #[inline(always)]
+    fn reserve(&mut self) -> Result<(), AllocError>
+        ensures spare { OnOk result (vec_len self.new.nodes < vec_capacity self.new.nodes) }
+        ensures same { built_view self.new ≡ built_view self.old }
+        ensures held { self.new.held ≡ self.old.held }
+        ensures left { self.new.room ≡ self.old.room }
     {
         if self.nodes.len() == self.nodes.capacity() {
             self.make_room()?;
         }
-        self.nodes.push_reserved(node);
+        Ok(())
+    }
+
+    /// Sees to it that there is room for another container that is not closed.
+    #[inline(always)]
+    fn reserve_opened(&mut self) -> Result<(), AllocError>
+        ensures spare { OnOk result (vec_len self.new.unclosed < vec_capacity self.new.unclosed) }
+        ensures same { built_view self.new ≡ built_view self.old }
+        ensures nodes { self.new.nodes ≡ self.old.nodes }
+        ensures left { self.new.room ≡ self.old.room }
+    {
+        if self.unclosed.len() == self.unclosed.capacity() {
+            self.make_room_to_open()?;
+        }
         Ok(())
     }
 
@@ -263,6 +402,17 @@ impl<'i> Built<'i> {
             return Ok(());
         }
         self.nodes.reserve(1)
+    }
+
+    /// Makes room for another container that is not closed.
+    #[inline(never)]
+    fn make_room_to_open(&mut self) -> Result<(), AllocError>
+        ensures room { OnOk result (vec_len self.new.unclosed < vec_capacity self.new.unclosed) }
+        ensures same { built_view self.new ≡ built_view self.old }
+        ensures nodes { self.new.nodes ≡ self.old.nodes }
+        ensures left { self.new.room ≡ self.old.room }
+    {
+        self.unclosed.reserve(1)
     }
 }
 
@@ -303,24 +453,57 @@ fn room_behind<'t>(room: Option<usize>) -> Result<Option<usize>, DeserializeErro
     }
 }
 
+/// A count or an index, where it fits 32 bits.
+///
+/// # Errors
+///
+/// Out of memory: there is none for so many nodes.
+#[inline(always)]
+fn in_32_bits(n: usize) -> Result<u32, AllocError>
+    ensures { IfOk result (λ same. same ≡ n) }
+{
+    match u32::try_from(n) {
+        Ok(same) => Ok(same),
+        Err(_) => Err(AllocError),
+    }
+}
+
 /// Puts a node in the place of another.
 #[inline(always)]
 fn put<'i>(nodes: &mut Vec<Node<'i>>, at: usize, node: Node<'i>)
     requires { at < length nodes.old.items }
-    ensures { nodes.new.items ≡ set nodes.old.items at node.entry }
+    ensures items { nodes.new.items ≡ set nodes.old.items at node.entry }
+    ensures len { vec_len nodes.new ≡ vec_len nodes.old }
+    ensures capacity { vec_capacity nodes.new ≡ vec_capacity nodes.old }
 {
     nodes[at] = node;
 }
 
-/// The node of a container that stands there, and that so many of the next nodes belong to.
+/// The node of a container with these bytes, and that so many of the next nodes belong to.
 #[inline(always)]
-fn container_node<'i>(kind: ContainerKind, inner: usize, span: Span) -> Node<'i>
-    ensures node { (input : List ℕ) (held : List RustScalar) → node_view input held result
-        ≡ container kind (text_at input (span_of span)) inner }
+fn container_node<'i>(kind: ContainerKind, inner: u32, text: &'i [u8]) -> Node<'i>
+    ensures node { (held : List RustScalar) → node_view held result ≡ container kind text.now inner }
     ensures held { (held : List RustScalar) → FindsHeld held result }
 {
     match kind {
-        ContainerKind::Array => Node::List(inner, span),
-        ContainerKind::Object => Node::Object(inner, span),
+        ContainerKind::Array => Node {
+            kind: NodeKind::List,
+            more: inner,
+            text,
+        },
+        ContainerKind::Object => Node {
+            kind: NodeKind::Object,
+            more: inner,
+            text,
+        },
     }
+}
+
+/// The bytes of the input in a span, as far as it lies there.
+#[inline(always)]
+fn bytes_of_span(input: &[u8], span: Span) -> &[u8]
+    ensures { result.now ≡ text_at input.now (span_of span) }
+{
+    let from = input.get(span.offset..).unwrap_or(&[]);
+    from.get(..span.len).unwrap_or(from)
 }

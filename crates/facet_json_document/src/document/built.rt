@@ -20,7 +20,7 @@ pub(crate) struct Opened {
 pub(crate) struct Built<'i> {
     /// The input.
     pub(crate) input: &'i [u8],
-    /// The values that no node holds itself.
+    /// The values that no node tells by its bytes.
     pub(crate) held: Vec<ScalarValue<'i>>,
     /// The nodes.
     pub(crate) nodes: Vec<Node<'i>>,

@@ -3,13 +3,12 @@
 ghost use Rattle.std.specs.Prelude.{◌≡◌, ◌<◌, ◌≤◌, suc, length, drop, option_map, slice_get};
 ghost use Rattle.std.specs.Int.{w64};
 ghost use Rattle.facet_format.specs.Event.{bytes_of};
-ghost use Rattle.facet_format.specs.Views.{span_of};
 ghost use Rattle.facet_json_tree.specs.Content as content;
 ghost use Rattle.facet_json_tree.specs.Content.{TellsUnsigned, TellsSigned};
 ghost use Rattle.facet_json_tree.specs.Lookup.{member, item};
 ghost use Rattle.facet_json_document.specs.Nodes.{value_kind, value_view, inner_len, items, members, items_left, members_left, item_nodes};
 ghost use Rattle.facet_json_document.specs.Nodes.{item_nodes_left, list_items, last_named, len, member_nodes, member_nodes_left};
-ghost use Rattle.facet_json_document.specs.Nodes.{object_members, nodes_from, pairs_list, raw_text, text_at, trees_list};
+ghost use Rattle.facet_json_document.specs.Nodes.{object_members, nodes_from, pairs_list, raw_text, trees_list};
 ghost use Rattle.facet_json_document.specs.Inner.Looking.{IsLeaf, IsNodeAt, IsNextItem, IsMemberAt, from, many, seen};
 
 mod copying;
@@ -19,7 +18,7 @@ mod writing;
 use crate::document::Document;
 use crate::document::held::{Items, Members};
 use crate::document::node::{Leaf, Node, ValueKind};
-use facet_format::{Decimal, Span};
+use facet_format::Decimal;
 
 /// A value of a document: a place in it, which is copied freely.
 #[derive(Clone, Copy)]
@@ -137,8 +136,8 @@ impl<'d, 'i> Value<'d, 'i> {
     /// of 1.50: as_decimal()                                   Some: its text is "1.50"
     /// of 1: as_decimal()                                      None
     /// ```
-    pub fn as_decimal(&self) -> Option<&'d Decimal<'i>>
-        ensures { option_map (λ d. bytes_of d.now) result ≡ content.as_decimal (value_view self.now) }
+    pub fn as_decimal(&self) -> Option<Decimal<'d>>
+        ensures { option_map bytes_of result ≡ content.as_decimal (value_view self.now) }
     {
         match self.leaf() {
             Some(Leaf::Decimal(decimal)) => Some(decimal),
@@ -157,7 +156,7 @@ impl<'d, 'i> Value<'d, 'i> {
         ensures { result.now ≡ raw_text (nodes_from self.now) }
     {
         match self.node(self.index) {
-            Some(node) => bytes_of_span(self.document.input, node.span()),
+            Some(node) => node.raw(),
             None => &[],
         }
     }
@@ -281,7 +280,7 @@ impl<'d, 'i> Value<'d, 'i> {
     }
 
     /// The value that holds no others, where it is one.
-    fn leaf(&self) -> Option<Leaf<'d, 'i>>
+    fn leaf(&self) -> Option<Leaf<'d>>
         ensures { IsLeaf (value_view self.now) result }
     {
         let node = self.node(self.index)?;
@@ -375,12 +374,4 @@ impl<'d, 'i> Value<'d, 'i> {
         let value = self.node(at + 1)?;
         Some((name, self.past(at + 1, value)))
     }
-}
-
-/// The bytes of the input in a span, as far as it lies there.
-fn bytes_of_span(input: &[u8], span: Span) -> &[u8]
-    ensures { result.now ≡ text_at input.now (span_of span) }
-{
-    let from = input.get(span.offset..).unwrap_or(&[]);
-    from.get(..span.len).unwrap_or(from)
 }

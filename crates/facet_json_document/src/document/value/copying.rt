@@ -89,7 +89,7 @@ fn copy_members(value: &Value<'_, '_>, alloc: Global) -> Result<Vec<(String, Tre
 }
 
 /// The tree of a value that holds no others.
-fn copy_leaf(leaf: Leaf<'_, '_>, alloc: Global) -> Result<Tree, AllocError>
+fn copy_leaf(leaf: Leaf<'_>, alloc: Global) -> Result<Tree, AllocError>
     ensures { MatchResult result (λ t. tree_view t ≡ leaf_view leaf.entry) (λ _. may_allocate (leaf_view leaf.entry) ≡ true) }
 {
     match leaf {
@@ -97,7 +97,7 @@ fn copy_leaf(leaf: Leaf<'_, '_>, alloc: Global) -> Result<Tree, AllocError>
         Leaf::Bool(b) => Ok(Tree::Bool(b)),
         Leaf::I64(n) => Ok(Tree::I64(n)),
         Leaf::U64(n) => Ok(Tree::U64(n)),
-        Leaf::Decimal(decimal) => Ok(Tree::Decimal(OwnedDecimal::new(alloc, decimal)?)),
+        Leaf::Decimal(decimal) => Ok(Tree::Decimal(OwnedDecimal::new(alloc, &decimal)?)),
         Leaf::Text(text) => Ok(Tree::Text(String::from_str(alloc, text)?)),
         Leaf::Other => Ok(no_value(alloc)),
     }

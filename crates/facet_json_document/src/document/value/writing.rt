@@ -105,10 +105,7 @@ fn write_members(
 }
 
 /// Writes a value that holds no others.
-fn write_leaf(
-    serializer: &mut JsonSerializer<'_>,
-    leaf: Leaf<'_, '_>,
-) -> Result<(), JsonSerializeError>
+fn write_leaf(serializer: &mut JsonSerializer<'_>, leaf: Leaf<'_>) -> Result<(), JsonSerializeError>
     ensures written { OnOk result (HasWritten serializer.old (leaf_view leaf.entry) serializer.new) }
     ensures refused { IfErr result (λ e. write_refusal_of e ≡ out_of_memory) }
     ensures spent { OnErr result (serializer.new ≡ None) }

@@ -6,20 +6,21 @@ use Rattle.facet_json_document.specs.Nodes.{text_at}
 use Rattle.facet_json_document.proofs.NodesHeld.{container-closed, none-closed}
 use Rattle.facet_json_document.proofs.document.built.Built.close.Goals as goal
 
-pub returns-then-opened-len-clause-closed : goal.returns-then-opened-len-clause-closed
-returns-then-opened-len-clause-closed c =
+pub returns-in-Ok-clause-closed : goal.returns-in-Ok-clause-closed
+returns-in-Ok-clause-closed c =
     let old = c.args.self.now in
     let long : c.len-len.result ≡ length old.nodes.items = search rules in
     let end : c.end.result ≡ stop (span_of c.args.last) = search rules in
     let span : span_of c.new-span.result ≡ span_at c.in-Some.opened.offset (stop (span_of c.args.last) - c.in-Some.opened.offset) =
     ap₂ span_at c.new-span.ensures.offset (c.new-span.ensures.len ∙ c.saturating_sub.ensures ∙ ap (λ e. e - c.in-Some.opened.offset) end) in
-    let own = c.container_node-node.ensures.node old.input.now old.held.items in
+    let own = c.container_node-node.ensures.node old.held.items in
     container-closed old.input.now old.held.items _ _ _ _ c.in-Some.opened _ (container c.args.kind) (stop (span_of c.args.last)) c.in-Some.ensures.items
-    c.put.ensures (own ∙ ap₂ (λ s n. container c.args.kind (text_at old.input.now s) (n - c.in-Some.opened.index)) span long)
+    c.put.ensures.items (own ∙ ap₂ (container c.args.kind) c.bytes_of_span.ensures c.in-Ok.ensures
+    ∙ ap₂ (λ s n. container c.args.kind (text_at old.input.now s) (n - c.in-Some.opened.index)) span long)
 
-pub returns-else-opened-len-clause-closed : goal.returns-else-opened-len-clause-closed
-returns-else-opened-len-clause-closed c =
+pub returns-then-len-opened-clause-closed : goal.returns-then-len-opened-clause-closed
+returns-then-len-opened-clause-closed c =
     let old = c.args.self.now in
     let long : c.len-len.result ≡ length old.nodes.items = search rules in
     none-closed old.input.now old.held.items old.nodes.items _ _ c.in-Some.opened (container c.args.kind) (stop (span_of c.args.last)) c.in-Some.ensures.items
-    (omega (arith, long, c.if-opened-len.false))
+    (omega (arith, long, c.if-len-opened.true))

@@ -13,15 +13,15 @@ returns-in_err-node-clause-value c = rw c.from_residual.ensures (sym (ap (member
 
 pub returns-then-not-is_object-clause-nodes : goal.returns-then-not-is_object-clause-nodes
 returns-then-not-is_object-clause-nodes c =
-    sym (ap (option_and_then (last_named c.args.key.now)) (no-member_nodes c.args.self.now _ c.in_ok-node.ensures (sym (c.if-not-is_object.ensures _ _))))
+    sym (ap (option_and_then (last_named c.args.key.now)) (no-member_nodes c.args.self.now _ c.in_ok-node.ensures (sym (c.if-not-is_object.ensures _))))
 
 pub returns-then-not-is_object-clause-value : goal.returns-then-not-is_object-clause-value
-returns-then-not-is_object-clause-value c = sym (no-members c.args.self.now _ c.args.key.now c.in_ok-node.ensures (sym (c.if-not-is_object.ensures _ _)))
+returns-then-not-is_object-clause-value c = sym (no-members c.args.self.now c.in_ok-node.node.now c.args.key.now c.in_ok-node.ensures (sym (c.if-not-is_object.ensures _)))
 
 pub returns-clause-nodes : goal.returns-clause-nodes
 returns-clause-nodes c =
     c.last_named.ensures
-    ∙ sym (ap (option_and_then (last_named c.args.key.now)) (members-are c.args.self.now _ c.in_ok-node.ensures (sym (c.if-not-is_object.ensures _ _))))
+    ∙ sym (ap (option_and_then (last_named c.args.key.now)) (members-are c.args.self.now _ c.in_ok-node.ensures (sym (c.if-not-is_object.ensures _))))
 
 pub returns-clause-value : goal.returns-clause-value
-returns-clause-value c = member-value c.args.self.now _ c.args.key.now _ c.in_ok-node.ensures (sym (c.if-not-is_object.ensures _ _)) c.last_named.ensures
+returns-clause-value c = member-value c.args.self.now _ c.args.key.now _ c.in_ok-node.ensures (sym (c.if-not-is_object.ensures _)) c.last_named.ensures

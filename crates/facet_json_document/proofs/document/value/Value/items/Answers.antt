@@ -14,18 +14,18 @@ returns-in_err-node-clause-values c =
     rw c.from_residual.ensures (sym (ap (λ t. option_map trees_list (as_list t)) (empty-value c.args.self.now c.in_err-node.ensures)))
 
 pub returns-then-not-is_list-clause-nodes : goal.returns-then-not-is_list-clause-nodes
-returns-then-not-is_list-clause-nodes c = sym (no-item_nodes c.args.self.now _ c.in_ok-node.ensures (sym (c.if-not-is_list.ensures _ _)))
+returns-then-not-is_list-clause-nodes c = sym (no-item_nodes c.args.self.now _ c.in_ok-node.ensures (sym (c.if-not-is_list.ensures _)))
 
 pub returns-then-not-is_list-clause-values : goal.returns-then-not-is_list-clause-values
-returns-then-not-is_list-clause-values c = sym (ap (option_map trees_list) (no-list c.args.self.now _ c.in_ok-node.ensures (sym (c.if-not-is_list.ensures _ _))))
+returns-then-not-is_list-clause-values c = sym (ap (option_map trees_list) (no-list c.args.self.now c.in_ok-node.node.now c.in_ok-node.ensures (sym (c.if-not-is_list.ensures _))))
 
 pub returns-clause-nodes : goal.returns-clause-nodes
 returns-clause-nodes c =
     let left = nodes-left c.new.result.document.now c.args.self.now.document.now c.new.result.at (suc c.args.self.now.index) c.new.ensures.same (c.new.ensures.at ∙ omega arith) in
-    ap (λ l. Some (items 0 l)) left ∙ sym (items-are c.args.self.now _ c.in_ok-node.ensures (sym (c.if-not-is_list.ensures _ _)))
+    ap (λ l. Some (items 0 l)) left ∙ sym (items-are c.args.self.now _ c.in_ok-node.ensures (sym (c.if-not-is_list.ensures _)))
 
 pub returns-clause-values : goal.returns-clause-values
 returns-clause-values c =
     let left = nodes-left c.new.result.document.now c.args.self.now.document.now c.new.result.at (suc c.args.self.now.index) c.new.ensures.same (c.new.ensures.at ∙ omega arith) in
     ap (λ l. Some (map first_value (items 0 l))) left ∙ ap Some (item-values c.args.self.now)
-    ∙ sym (ap (λ t. option_map trees_list (as_list t)) (list-of c.args.self.now _ c.in_ok-node.ensures (sym (c.if-not-is_list.ensures _ _))))
+    ∙ sym (ap (λ t. option_map trees_list (as_list t)) (list-of c.args.self.now _ c.in_ok-node.ensures (sym (c.if-not-is_list.ensures _))))

@@ -11,12 +11,12 @@ returns-in_err-node c = rw c.from_residual.ensures (sym (ap len (empty-value c.a
 pub returns-then-is_list : goal.returns-then-is_list
 returns-then-is_list c =
     ap Some (c.items_len.ensures ∙ sym (trees_len-from (items 0 (from c.args.self.now (suc c.args.self.now.index)))))
-    ∙ sym (ap len (list-of c.args.self.now _ c.in_ok-node.ensures (sym (c.if-is_list.ensures _ _))))
+    ∙ sym (ap len (list-of c.args.self.now _ c.in_ok-node.ensures (sym (c.if-is_list.ensures _))))
 
 pub returns-then-is_object : goal.returns-then-is_object
 returns-then-is_object c =
     ap Some (c.members_len.ensures ∙ sym (pairs_len-from (members 0 (from c.args.self.now (suc c.args.self.now.index)))))
-    ∙ sym (ap len (object-of c.args.self.now _ c.in_ok-node.ensures (sym (c.if-is_object.ensures _ _))))
+    ∙ sym (ap len (object-of c.args.self.now _ c.in_ok-node.ensures (sym (c.if-is_object.ensures _))))
 
 pub returns : goal.returns
-returns c = sym (no-len c.args.self.now _ c.in_ok-node.ensures (sym (c.if-is_list.ensures _ _)) (sym (c.if-is_object.ensures _ _)))
+returns c = sym (no-len c.args.self.now c.in_ok-node.node.now c.in_ok-node.ensures (sym (c.if-is_list.ensures _)) (sym (c.if-is_object.ensures _)))

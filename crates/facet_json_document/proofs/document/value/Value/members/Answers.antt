@@ -14,18 +14,18 @@ returns-in_err-node-clause-values c =
     rw c.from_residual.ensures (sym (ap (λ t. option_map pairs_list (as_pairs t)) (empty-value c.args.self.now c.in_err-node.ensures)))
 
 pub returns-then-not-is_object-clause-nodes : goal.returns-then-not-is_object-clause-nodes
-returns-then-not-is_object-clause-nodes c = sym (no-member_nodes c.args.self.now _ c.in_ok-node.ensures (sym (c.if-not-is_object.ensures _ _)))
+returns-then-not-is_object-clause-nodes c = sym (no-member_nodes c.args.self.now _ c.in_ok-node.ensures (sym (c.if-not-is_object.ensures _)))
 
 pub returns-then-not-is_object-clause-values : goal.returns-then-not-is_object-clause-values
-returns-then-not-is_object-clause-values c = sym (ap (option_map pairs_list) (no-pairs c.args.self.now _ c.in_ok-node.ensures (sym (c.if-not-is_object.ensures _ _))))
+returns-then-not-is_object-clause-values c = sym (ap (option_map pairs_list) (no-pairs c.args.self.now c.in_ok-node.node.now c.in_ok-node.ensures (sym (c.if-not-is_object.ensures _))))
 
 pub returns-clause-nodes : goal.returns-clause-nodes
 returns-clause-nodes c =
     let left = nodes-left c.new.result.document.now c.args.self.now.document.now c.new.result.at (suc c.args.self.now.index) c.new.ensures.same (c.new.ensures.at ∙ omega arith) in
-    ap (λ l. Some (members 0 l)) left ∙ sym (members-are c.args.self.now _ c.in_ok-node.ensures (sym (c.if-not-is_object.ensures _ _)))
+    ap (λ l. Some (members 0 l)) left ∙ sym (members-are c.args.self.now _ c.in_ok-node.ensures (sym (c.if-not-is_object.ensures _)))
 
 pub returns-clause-values : goal.returns-clause-values
 returns-clause-values c =
     let left = nodes-left c.new.result.document.now c.args.self.now.document.now c.new.result.at (suc c.args.self.now.index) c.new.ensures.same (c.new.ensures.at ∙ omega arith) in
     ap (λ l. Some (map member_value (members 0 l))) left ∙ ap Some (member-values c.args.self.now)
-    ∙ sym (ap (λ t. option_map pairs_list (as_pairs t)) (object-of c.args.self.now _ c.in_ok-node.ensures (sym (c.if-not-is_object.ensures _ _))))
+    ∙ sym (ap (λ t. option_map pairs_list (as_pairs t)) (object-of c.args.self.now _ c.in_ok-node.ensures (sym (c.if-not-is_object.ensures _))))

@@ -4,5 +4,5 @@ use Rattle.facet_json_document.proofs.document.value.Value.next_item.Goals as go
 
 pub returns : goal.returns
 returns c =
-    item-stands c.args.self.now c.args.at c.past.result _ c.in_ok-node.ensures (sym (c.if-is_end.ensures _ _)) c.past.ensures.left c.past.ensures.further
+    item-stands c.args.self.now c.args.at c.past.result _ c.in_ok-node.ensures (sym (c.if-is_end.ensures _)) c.past.ensures.left c.past.ensures.further
     c.past.ensures.within

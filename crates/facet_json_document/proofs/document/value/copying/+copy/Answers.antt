@@ -21,21 +21,21 @@ copy_value-returns-in_default t c = c.no_value.ensures ∙ sym (empty-value c.ar
 pub copy_value-returns-in_err-copy_items : goal.copy_value-returns-in_err-copy_items
 copy_value-returns-in_err-copy_items t c =
     let p = err_from_is_err_and c.from_residual.result c.from_residual.ensures.1 in
-    rw p.1 (ap may_allocate (list-of c.args.value.now _ c.in-Some.ensures (sym (c.if-is_list.ensures _ _))))
+    rw p.1 (ap may_allocate (list-of c.args.value.now _ c.in-Some.ensures (sym (c.if-is_list.ensures _))))
 
 pub copy_value-returns-then-is_list : goal.copy_value-returns-then-is_list
 copy_value-returns-then-is_list t c =
-    tree_view-List _ ∙ ap trees.list c.in_ok-copy_items.ensures ∙ sym (list-of c.args.value.now _ c.in-Some.ensures (sym (c.if-is_list.ensures _ _)))
+    tree_view-List _ ∙ ap trees.list c.in_ok-copy_items.ensures ∙ sym (list-of c.args.value.now _ c.in-Some.ensures (sym (c.if-is_list.ensures _)))
 
 pub copy_value-returns-in_err-copy_members : goal.copy_value-returns-in_err-copy_members
 copy_value-returns-in_err-copy_members t c =
     let p = err_from_is_err_and c.from_residual-in_err-copy_members.result c.from_residual-in_err-copy_members.ensures.1 in
-    rw p.1 (ap may_allocate (object-of c.args.value.now _ c.in-Some.ensures (sym (c.if-is_object.ensures _ _))))
+    rw p.1 (ap may_allocate (object-of c.args.value.now _ c.in-Some.ensures (sym (c.if-is_object.ensures _))))
 
 pub copy_value-returns-then-is_object : goal.copy_value-returns-then-is_object
 copy_value-returns-then-is_object t c =
     tree_view-Pairs _ ∙ ap trees.pairs c.in_ok-copy_members.ensures
-    ∙ sym (object-of c.args.value.now _ c.in-Some.ensures (sym (c.if-is_object.ensures _ _)))
+    ∙ sym (object-of c.args.value.now _ c.in-Some.ensures (sym (c.if-is_object.ensures _)))
 
 pub copy_value-returns-in-Some-leaf : goal.copy_value-returns-in-Some-leaf
 copy_value-returns-in-Some-leaf t c = rw (leaf-of c.args.value.now _ _ c.in-Some.ensures c.in-Some-leaf.ensures) c.copy_leaf.ensures
@@ -43,4 +43,4 @@ copy_value-returns-in-Some-leaf t c = rw (leaf-of c.args.value.now _ _ c.in-Some
 pub copy_value-returns-in-None : goal.copy_value-returns-in-None
 copy_value-returns-in-None t c =
     c.no_value-in-None.ensures
-    ∙ sym (nothing-of c.args.value.now _ c.in-Some.ensures c.in-None.ensures (sym (c.if-is_list.ensures _ _)) (sym (c.if-is_object.ensures _ _)))
+    ∙ sym (nothing-of c.args.value.now _ c.in-Some.ensures c.in-None.ensures (sym (c.if-is_list.ensures _)) (sym (c.if-is_object.ensures _)))

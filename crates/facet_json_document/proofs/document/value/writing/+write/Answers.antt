@@ -33,11 +33,11 @@ write_value-returns-in_default-clause-written t c = rw (empty-value c.args.value
 
 pub write_value-returns-then-is_list-clause-written : goal.write_value-returns-then-is_list-clause-written
 write_value-returns-then-is_list-clause-written t c =
-    rw (list-of c.args.value.now _ c.in-Some.ensures (sym (c.if-is_list.ensures _ _))) c.write_items.ensures.written
+    rw (list-of c.args.value.now _ c.in-Some.ensures (sym (c.if-is_list.ensures _))) c.write_items.ensures.written
 
 pub write_value-returns-then-is_object-clause-written : goal.write_value-returns-then-is_object-clause-written
 write_value-returns-then-is_object-clause-written t c =
-    rw (object-of c.args.value.now _ c.in-Some.ensures (sym (c.if-is_object.ensures _ _))) c.write_members.ensures.written
+    rw (object-of c.args.value.now _ c.in-Some.ensures (sym (c.if-is_object.ensures _))) c.write_members.ensures.written
 
 pub write_value-returns-in-Some-leaf-clause-written : goal.write_value-returns-in-Some-leaf-clause-written
 write_value-returns-in-Some-leaf-clause-written t c =
@@ -45,7 +45,7 @@ write_value-returns-in-Some-leaf-clause-written t c =
 
 pub write_value-returns-in-None-clause-written : goal.write_value-returns-in-None-clause-written
 write_value-returns-in-None-clause-written t c =
-    rw (nothing-of c.args.value.now _ c.in-Some.ensures c.in-None.ensures (sym (c.if-is_list.ensures _ _)) (sym (c.if-is_object.ensures _ _)))
+    rw (nothing-of c.args.value.now _ c.in-Some.ensures c.in-None.ensures (sym (c.if-is_list.ensures _)) (sym (c.if-is_object.ensures _)))
     c.write_nothing-in-None.ensures.written
 
 pub write_items-loop-next-init : goal.write_items-loop-next-init
