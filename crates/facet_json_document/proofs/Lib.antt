@@ -16,6 +16,7 @@ pub mod PieceShapes
 pub mod PieceSteps
 pub mod PiecesCut
 pub mod PiecesFound
+pub mod PiecesTaken
 pub mod PointersSeen
 pub mod SameDocuments
 pub mod SameTokens

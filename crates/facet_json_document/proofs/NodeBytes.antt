@@ -1,9 +1,8 @@
 -- What a node's bytes tell: whether they are a text in quotes, which text that is, and which number they are.
-use Rattle.std.proofs.Common.{◌≡◌, ◌≤◌, ◌+◌, ◌-◌, ℕ, Bool, true, false, cond, List, length, take, drop, Some, None, not, ◌&&◌, refl, sym, subst, ap, ap₂, ◌∙◌, arith, leb-true, le-leb}
-use Rattle.std.specs.Prelude.{nat_le, ◌==◌, slice_range}
-use Rattle.std.specs.Str.{IsUtf8, is_utf8}
+use Rattle.std.proofs.Common.{◌≡◌, ℕ, Bool, true, false, cond, List, length, Some, None, not, ◌&&◌, refl, ap, ◌∙◌, leb-true, le-leb}
+use Rattle.std.specs.Prelude.{nat_le, ◌==◌}
+use Rattle.std.specs.Str.{is_utf8}
 use Rattle.std.proofs.lemmas.Bool.{and_parts, and_from}
-use Rattle.std.proofs.lemmas.List.{length-take-le, length-drop, drop-take, take-take, drop-drop}
 use Rattle.std.proofs.lemmas.Str.{IsUtf8-from_is_utf8, is_utf8-from_IsUtf8}
 use Rattle.facet_format.specs.Number.{Hint, unsigned, signed, float}
 use Rattle.facet_format.specs.NumberParts.{parts, parts_len, parts_hint, is_bare, begins_number, is_number, same_hint}
@@ -29,29 +28,6 @@ quoted-told bytes e =
       long = leb-true 2 (length bytes) first.0;
       utf8 = IsUtf8-from_is_utf8 (quoted bytes) rest.0;
       plain = is_false _ rest.1;
-    }
-
--- What has quotes in an input has between them what is between them there.
-pub quoted-there : (input : List ℕ) (at end : ℕ) → at + 2 ≤ end → end ≤ length input →
-    quoted (slice_range input at end) ≡ slice_range input (at + 1) (end - 1)
-quoted-there input at end some within =
-    let m = end - at - 1 in
-    let long : length (slice_range input at end) ≡ end - at = length-take-le (end - at) (drop at input) (omega (arith, some, within, length-drop at input)) in
-    let whole : end - at ≡ 1 + m = omega (arith, some) in
-    let first : drop 1 (slice_range input at end) ≡ take m (drop 1 (drop at input)) =
-    ap (λ n. drop 1 (take n (drop at input))) whole ∙ drop-take 1 m (drop at input) in
-    let less : length (slice_range input at end) - 1 - 1 ≡ end - 1 - (at + 1) = omega (arith, some, long) in
-    let few : end - 1 - (at + 1) ≤ m = omega (arith, some) in
-    ap₂ take less first ∙ take-take (end - 1 - (at + 1)) m (drop 1 (drop at input)) few ∙ ap (take (end - 1 - (at + 1))) (drop-drop 1 at input)
-
-pub are-quoted : (input : List ℕ) (at end : ℕ) → at + 2 ≤ end → end ≤ length input → IsUtf8 (slice_range input (at + 1) (end - 1)) →
-    has_backslash (slice_range input (at + 1) (end - 1)) ≡ false → IsQuotedText (slice_range input at end)
-are-quoted input at end some within utf8 plain =
-    let there = quoted-there input at end some within in
-    record {
-      long = omega (arith, some, within, length-take-le (end - at) (drop at input) (omega (arith, some, within, length-drop at input)));
-      utf8 = subst IsUtf8 (sym there) utf8;
-      plain = ap has_backslash there ∙ plain;
     }
 
 -- A number is read with the hint that its own bytes have.

@@ -70,6 +70,16 @@ built_view b = record { input = b.input.now; nodes = nodes_view b.held.items b.n
 abbrev pub Kept : Built → Built → Type 0
 Kept old new = (built_view new ≡ built_view old) × (new.room ≡ old.room)
 
+-- Where so many containers may be opened before the event, so many may be opened after it.
+abbrev pub LeavesRoom : Option ℕ → EventKind → Span → Option ℕ → Type 0
+LeavesRoom room kind span left = (others : Option ℕ → Option Span) → beyond_event kind span others room ≡ others left
+
+-- The event's node is added, where the nodes are of that input, and as many containers may be opened as after it; or nothing is.
+abbrev pub TakesNode : List ℕ → Option Event → Built → Built → Type 0
+TakesNode input None old new = Kept old new
+TakesNode input (Some e) old new =
+    old.input.now ≡ input → (built_view new ≡ added e.kind e.span (built_view old)) × LeavesRoom old.room e.kind e.span new.room
+
 -- The next event was passed and its node added, or the end was told.
 abbrev pub AddsNext : Bool → Now → Now → NodesSoFar → NodesSoFar → Type 0
 AddsNext true old new was is = (e : Event) × Moves old next (event (Ok (Some e))) new × (is ≡ added e.kind e.span was)
@@ -88,10 +98,6 @@ pub record AddsAll (old : Now) (nodes : List Node) : Type 0 where
   pub made : nodes ≡ (all_added events (none_yet old.buffer)).nodes
 
 -- ---- within a depth
-
--- Where so many containers may be opened before the event, so many may be opened after it.
-abbrev pub LeavesRoom : Option ℕ → EventKind → Span → Option ℕ → Type 0
-LeavesRoom room kind span left = (others : Option ℕ → Option Span) → beyond_event kind span others room ≡ others left
 
 -- The event opens a container where no more may be opened, and is refused for that.
 pub record IsTooDeep (room : Option ℕ) (kind : EventKind) (span : Span) (refusal : Refusal) : Type 0 where

@@ -1,7 +1,7 @@
 //! Nodes of events.
 
 ghost use Rattle.std.specs.Prelude.{◌≡◌, ◌<◌, ◌≤◌, ◌⊎◌, ℕ, List, Err, true, false, Ok, Option, None, Some, IfOk, IfErr, IfSome, OnOk, OnErr};
-ghost use Rattle.std.specs.Prelude.{MatchResult, length, reverse, set, slice_get};
+ghost use Rattle.std.specs.Prelude.{MatchResult, ◌^◌, length, reverse, set, slice_get};
 ghost use Rattle.facet_format.specs.Complaint.{no_memory};
 ghost use Rattle.facet_format.specs.Cursor.{event, next};
 ghost use Rattle.facet_format.specs.Span.{Span as SpecSpan, stop};
@@ -33,7 +33,8 @@ use facet_format::{
     ContainerKind, DeserializeError, DeserializeErrorKind, FormatParser, ParseEventKind,
     ScalarValue, Span,
 };
-use facet_json_parser::JsonParser;
+use facet_json_parser::{JsonParser, pass_in_sight};
+use facet_json_reader::{Piece, Takes};
 use std::alloc::{AllocError, Global};
 use std::borrow::CowStr;
 
@@ -61,9 +62,33 @@ pub(crate) fn build<'i, 't>(
         unclosed: Vec::new(alloc),
         room: depth,
     };
-    while built.adds_event(parser)? {}
+    pass_in_sight(parser, &mut built);
+    while built.adds_event(parser)? {
+        pass_in_sight(parser, &mut built);
+    }
     let Built { nodes, held, .. } = built;
     Ok((nodes, held))
+}
+
+/// It adds the node of each event that it takes.
+impl<'i> Takes<'i> for Built<'i> {
+    ghost use Rattle.facet_json_document.specs.Inner.Building.{TakesNode};
+
+    ghost takes = { TakesNode };
+
+    #[inline(always)]
+    fn take(&mut self, input: &'i [u8], piece: Piece, span: Span) -> bool {
+        let text = &input[span.offset..span.end()];
+        match piece {
+            Piece::Text => self.add_text(text).is_ok(),
+            Piece::Key => self.add_name(text).is_ok(),
+            Piece::Number => self.add_number(text).is_ok(),
+            Piece::Bool(b) => self.add_bool(b, text).is_ok(),
+            Piece::Null => self.add_null(text).is_ok(),
+            Piece::Start(kind) => self.begin(kind, span).is_ok(),
+            Piece::End(kind) => self.end(kind, span).is_ok(),
+        }
+    }
 }
 
 impl<'i> Built<'i> {
@@ -288,7 +313,7 @@ impl<'i> Built<'i> {
     /// Out of memory: the nodes are then as they were.
     #[inline(always)]
     fn end<'t>(&mut self, kind: ContainerKind, last: Span) -> Result<(), DeserializeError<'t>>
-        requires { stop (span_of last) ≤ length self.old.input.now }
+        requires { stop (span_of last) < 2 ^ 64 }
         ensures ended { OnOk result (built_view self.new ≡ ended (container kind) (stop (span_of last)) (built_view self.old)) }
         ensures left { OnOk result (self.new.room ≡ outer self.old.room) }
         ensures refused { IfErr result (λ e. refusal_of e ≡ no_memory) }
@@ -311,7 +336,7 @@ impl<'i> Built<'i> {
     /// to it.
     #[inline(always)]
     fn close(&mut self, kind: ContainerKind, last: Span) -> Result<(), AllocError>
-        requires { stop (span_of last) ≤ length self.old.input.now }
+        requires { stop (span_of last) < 2 ^ 64 }
         ensures closed { OnOk result (built_view self.new ≡ closed (container kind) (stop (span_of last)) (built_view self.old)) }
         ensures kept { OnErr result (built_view self.new ≡ built_view self.old) }
         ensures room { self.new.room ≡ self.old.room }

@@ -1,5 +1,5 @@
 -- The bracket gives the beginning of the container.
-use Rattle.std.proofs.Common.{◌≡◌, refl, arith}
+use Rattle.std.proofs.Common.{refl, arith}
 use Rattle.std.proofs.lemmas.Option.{slice_get_within}
 use Rattle.facet_json_reader.specs.Inner.InSight.{not_told}
 use Rattle.facet_json_reader.specs.PlaceViews.{opening_bracket}

@@ -1,5 +1,5 @@
 -- Each first byte begins what its arm measures.
-use Rattle.std.proofs.Common.{◌≡◌, ◌+◌, ◌≤◌, length, refl, arith}
+use Rattle.std.proofs.Common.{refl, arith}
 use Rattle.std.proofs.lemmas.Option.{slice_get_within}
 use Rattle.facet_format.specs.Bytes as byte
 use Rattle.facet_json_token.proofs.FirstBytes.{start_of-number_range}

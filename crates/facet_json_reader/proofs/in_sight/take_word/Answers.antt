@@ -1,5 +1,5 @@
 -- The letters of a literal are its token.
-use Rattle.std.proofs.Common.{refl, sym, ◌∙◌}
+use Rattle.std.proofs.Common.{sym, ◌∙◌}
 use Rattle.facet_json_grammar.proofs.TokensIn.{allowed-plain}
 use Rattle.facet_json_reader.specs.Inner.InSight.{not_told}
 use Rattle.facet_json_reader.specs.Values.{IsAllowedThere}

@@ -10,7 +10,7 @@ pub returns-in-Ok-clause-closed : goal.returns-in-Ok-clause-closed
 returns-in-Ok-clause-closed c =
     let old = c.args.self.now in
     let long : c.len-len.result ≡ length old.nodes.items = search rules in
-    let end : c.end.result ≡ stop (span_of c.args.last) = search rules in
+    let end : c.end.result ≡ stop (span_of c.args.last) = c.end.ensures.fits c.requires in
     let span : span_of c.new-span.result ≡ span_at c.in-Some.opened.offset (stop (span_of c.args.last) - c.in-Some.opened.offset) =
     ap₂ span_at c.new-span.ensures.offset (c.new-span.ensures.len ∙ c.saturating_sub.ensures ∙ ap (λ e. e - c.in-Some.opened.offset) end) in
     let own = c.container_node-node.ensures.node old.held.items in
