@@ -23,7 +23,7 @@ ghost use Rattle.facet_json_grammar.specs.Move.{Moves};
 ghost use Rattle.facet_json_grammar.specs.Now.{ahead, future_of};
 ghost use Rattle.facet_json_grammar.specs.UnreadLaws.{RefusalWithin};
 ghost use Rattle.facet_json_document.specs.Formatted.{GetsStuckWithin};
-ghost use Rattle.facet_json_document.specs.Nodes.{Node as SpecNode, leaf, key, list, object, closing, nothing, node_view, nodes_view};
+ghost use Rattle.facet_json_document.specs.Nodes.{leaf, key, nothing, node_view, nodes_view};
 ghost use Rattle.facet_json_document.specs.Nodes.{text_at, number_tree};
 ghost use Rattle.facet_json_document.specs.QuotedText.{IsQuotedText, quoted};
 

@@ -1,6 +1,6 @@
 //! What a node tells: which value it is of, of its bytes or of what the document holds beside its nodes.
 
-ghost use Rattle.std.specs.Prelude.{◌≡◌, ◌-◌, ◌≤◌, ℕ, true, false, List, ◌∷◌, slice_get, MatchOption};
+ghost use Rattle.std.specs.Prelude.{◌≡◌, false, List, ◌∷◌, slice_get, MatchOption};
 ghost use Rattle.std.specs.Option.{unwrap_or};
 ghost use Rattle.facet_format.specs.Event.{bytes_of};
 ghost use Rattle.facet_format.specs.Views.{scalar_value_of};
