@@ -35,4 +35,4 @@ returns-then-is_list-clause-value c =
 
 pub returns-clause-value : goal.returns-clause-value
 returns-clause-value c =
-    sym (no-child c.args.self.now _ (unescaped c.args.token.now) c.in_ok-node.ensures (sym (c.if-is_object.ensures _)) (sym (c.if-is_list.ensures _)))
+    sym (no-child c.args.self.now c.in_ok-node.node.now (unescaped c.args.token.now) c.in_ok-node.ensures (sym (c.if-is_object.ensures _)) (sym (c.if-is_list.ensures _)))
