@@ -7,6 +7,7 @@ pub mod NodesBuilt
 pub mod NodesHeld
 pub mod NodesRead
 pub mod NodesSeen
+pub mod NodesTaken
 pub mod NodesWithin
 pub mod NodesWritten
 pub mod OneDocuments

@@ -10,6 +10,7 @@ use Rattle.facet_json_grammar.specs.Future.{finished, events_before}
 use Rattle.facet_json_grammar.specs.Move.{Moves}
 use Rattle.facet_json_grammar.specs.Now.{Now, future_of}
 use Rattle.facet_json_tree.specs.Depth.{beyond_event, too_deep_at, beyond}
+use Rattle.facet_json_tree.specs.Inner.Beyond.{SameBeyond}
 use Rattle.facet_json_document.specs.Nodes.{Node, leaf, key, list, object, closing, nothing, text_at, nodes_view}
 use Rattle.facet_format.specs.declared.event.ContainerKind.{ContainerKind as RustContainerKind}
 use Rattle.facet_format.specs.declared.event.ContainerKind.TheVariants as rust
@@ -90,6 +91,14 @@ pub record AddsSome (old now : Now) (is : NodesSoFar) : Type 0 where
   pub events : List Passed
   pub comes : future_of old ≡ events_before events (future_of now)
   pub nodes : is ≡ all_added events (none_yet old.buffer)
+
+-- So it is of the nodes of this input, within the limit, and the parser is not refused.
+pub record AddsSoFar (old : Now) (limit : Option ℕ) (input : List ℕ) (now : Now) (b : Built) : Type 0 where
+  pub passed : AddsSome old now (built_view b)
+  pub buffer : now.buffer ≡ old.buffer
+  pub input : b.input.now ≡ input
+  pub level : SameBeyond (future_of old) limit (future_of now) b.room
+  pub free : old.cursor.refusal ≡ None → now.cursor.refusal ≡ None
 
 -- All events were passed, and these are their nodes.
 pub record AddsAll (old : Now) (nodes : List Node) : Type 0 where

@@ -78,15 +78,15 @@ impl<'i> Takes<'i> for Built<'i> {
 
     #[inline(always)]
     fn take(&mut self, input: &'i [u8], piece: Piece, span: Span) -> bool {
-        let text = &input[span.offset..span.end()];
+        let text = &input[span.offset..span.offset + span.len];
         match piece {
             Piece::Text => self.add_text(text).is_ok(),
             Piece::Key => self.add_name(text).is_ok(),
             Piece::Number => self.add_number(text).is_ok(),
             Piece::Bool(b) => self.add_bool(b, text).is_ok(),
             Piece::Null => self.add_null(text).is_ok(),
-            Piece::Start(kind) => self.begin(kind, span).is_ok(),
-            Piece::End(kind) => self.end(kind, span).is_ok(),
+            Piece::Start(kind) => self.begin(kind, span, text).is_ok(),
+            Piece::End(kind) => self.end(kind, span.offset + span.len).is_ok(),
         }
     }
 }
@@ -130,10 +130,18 @@ impl<'i> Built<'i> {
         match kind {
             ParseEventKind::Scalar(value) => self.add_leaf(value, span)?,
             ParseEventKind::FieldKey(key) => self.add_key(key.name)?,
-            ParseEventKind::SequenceStart(_) => self.begin(ContainerKind::Array, span)?,
-            ParseEventKind::StructStart(_) => self.begin(ContainerKind::Object, span)?,
-            ParseEventKind::SequenceEnd => self.end(ContainerKind::Array, span)?,
-            ParseEventKind::StructEnd => self.end(ContainerKind::Object, span)?,
+            ParseEventKind::SequenceStart(_) => self.begin(
+                ContainerKind::Array,
+                span,
+                bytes_of_span(self.input, span),
+            )?,
+            ParseEventKind::StructStart(_) => self.begin(
+                ContainerKind::Object,
+                span,
+                bytes_of_span(self.input, span),
+            )?,
+            ParseEventKind::SequenceEnd => self.end(ContainerKind::Array, span.end())?,
+            ParseEventKind::StructEnd => self.end(ContainerKind::Object, span.end())?,
         }
         Ok(())
     }
@@ -279,15 +287,19 @@ impl<'i> Built<'i> {
         Ok(at)
     }
 
-    /// Adds the node of a container that begins with this bracket.
+    /// Adds the node of a container that begins with this bracket, whose bytes these are.
     ///
     /// # Errors
     ///
     /// As `add`.
     #[inline(always)]
-    fn begin<'t>(&mut self, kind: ContainerKind, first: Span) -> Result<(), DeserializeError<'t>>
-        ensures begun { OnOk result
-            (built_view self.new ≡ begun first.offset (container kind (text_at self.old.input.now (span_of first)) 0) (built_view self.old)) }
+    fn begin<'t>(
+        &mut self,
+        kind: ContainerKind,
+        first: Span,
+        text: &'i [u8],
+    ) -> Result<(), DeserializeError<'t>>
+        ensures begun { OnOk result (built_view self.new ≡ begun first.offset (container kind text.now 0) (built_view self.old)) }
         ensures left { OnOk result
             ((others : Option ℕ → Option SpecSpan) → beyond_bracket (span_of first) others self.old.room ≡ others self.new.room) }
         ensures refused { IfErr result
@@ -301,28 +313,25 @@ impl<'i> Built<'i> {
         let index = self.nodes.len();
         let offset = first.offset;
         self.unclosed.push_reserved(Opened { index, offset });
-        self.push(container_node(kind, 0, bytes_of_span(self.input, first)));
+        self.push(container_node(kind, 0, text));
         self.room = room;
         Ok(())
     }
 
-    /// Adds the node of the innermost container's end, which is this token.
+    /// Adds the node of the innermost container's end, behind which this offset is.
     ///
     /// # Errors
     ///
     /// Out of memory: the nodes are then as they were.
     #[inline(always)]
-    fn end<'t>(&mut self, kind: ContainerKind, last: Span) -> Result<(), DeserializeError<'t>>
-        requires { stop (span_of last) < 2 ^ 64 }
-        ensures ended { OnOk result (built_view self.new ≡ ended (container kind) (stop (span_of last)) (built_view self.old)) }
+    fn end(&mut self, kind: ContainerKind, end: usize) -> Result<(), AllocError>
+        ensures ended { OnOk result (built_view self.new ≡ ended (container kind) end (built_view self.old)) }
         ensures left { OnOk result (self.new.room ≡ outer self.old.room) }
-        ensures refused { IfErr result (λ e. refusal_of e ≡ no_memory) }
-        ensures span { IfErr result (λ e. IfSome e.span (λ s. s ≡ last)) }
         ensures kept { OnErr result (Kept self.old self.new) }
     {
         let room = room_behind(self.room)?;
         self.reserve()?;
-        self.close(kind, last)?;
+        self.close(kind, end)?;
         self.push(Node {
             kind: NodeKind::End,
             more: 0,
@@ -332,12 +341,11 @@ impl<'i> Built<'i> {
         Ok(())
     }
 
-    /// Takes the innermost container off those that are not closed, and writes into its node which bytes it has and how many nodes belong
-    /// to it.
+    /// Takes the innermost container off those that are not closed, and writes into its node which bytes it has, up to this offset, and how
+    /// many nodes belong to it.
     #[inline(always)]
-    fn close(&mut self, kind: ContainerKind, last: Span) -> Result<(), AllocError>
-        requires { stop (span_of last) < 2 ^ 64 }
-        ensures closed { OnOk result (built_view self.new ≡ closed (container kind) (stop (span_of last)) (built_view self.old)) }
+    fn close(&mut self, kind: ContainerKind, end: usize) -> Result<(), AllocError>
+        ensures closed { OnOk result (built_view self.new ≡ closed (container kind) end (built_view self.old)) }
         ensures kept { OnErr result (built_view self.new ≡ built_view self.old) }
         ensures room { self.new.room ≡ self.old.room }
         ensures spare { vec_len self.old.nodes < vec_capacity self.old.nodes → vec_len self.new.nodes < vec_capacity self.new.nodes }
@@ -351,7 +359,7 @@ impl<'i> Built<'i> {
         }
         match in_32_bits(len - opened.index) {
             Ok(inner) => {
-                let span = Span::new(opened.offset, last.end().saturating_sub(opened.offset));
+                let span = Span::new(opened.offset, end.saturating_sub(opened.offset));
                 let node = container_node(kind, inner, bytes_of_span(self.input, span));
                 put(&mut self.nodes, opened.index, node);
                 Ok(())
@@ -466,14 +474,14 @@ fn room_within<'t>(span: Span, room: Option<usize>) -> Result<Option<usize>, Des
 ///
 /// Out of memory, where no number tells: there is no memory for so many.
 #[inline(always)]
-fn room_behind<'t>(room: Option<usize>) -> Result<Option<usize>, DeserializeError<'t>>
-    ensures { MatchResult result (λ left. left ≡ outer room) (λ e. refusal_of e ≡ no_memory) }
+fn room_behind(room: Option<usize>) -> Result<Option<usize>, AllocError>
+    ensures { IfOk result (λ left. left ≡ outer room) }
 {
     match room {
         None => Ok(None),
         Some(n) => match n.checked_add(1) {
             Some(more) => Ok(Some(more)),
-            None => Err(DeserializeError::out_of_memory()),
+            None => Err(AllocError),
         },
     }
 }
