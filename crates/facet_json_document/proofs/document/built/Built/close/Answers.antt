@@ -1,5 +1,5 @@
 use Rattle.std.proofs.Common.{◌≡◌, ◌-◌, ap, ap₂, ◌∙◌, arith, length, rules}
-use Rattle.facet_format.specs.Span.{span_at, stop}
+use Rattle.facet_format.specs.Span.{span_at}
 use Rattle.facet_format.specs.Views.{span_of}
 use Rattle.facet_json_document.specs.Inner.Building.{container}
 use Rattle.facet_json_document.specs.Nodes.{text_at}
@@ -10,11 +10,10 @@ pub returns-in-Ok-clause-closed : goal.returns-in-Ok-clause-closed
 returns-in-Ok-clause-closed c =
     let old = c.args.self.now in
     let long : c.len-len.result ≡ length old.nodes.items = search rules in
-    let end : c.end.result ≡ stop (span_of c.args.last) = c.end.ensures.fits c.requires in
-    let span : span_of c.new-span.result ≡ span_at c.in-Some.opened.offset (stop (span_of c.args.last) - c.in-Some.opened.offset) =
-    ap₂ span_at c.new-span.ensures.offset (c.new-span.ensures.len ∙ c.saturating_sub.ensures ∙ ap (λ e. e - c.in-Some.opened.offset) end) in
+    let span : span_of c.new-span.result ≡ span_at c.in-Some.opened.offset (c.args.end - c.in-Some.opened.offset) =
+    ap₂ span_at c.new-span.ensures.offset (c.new-span.ensures.len ∙ c.saturating_sub.ensures) in
     let own = c.container_node-node.ensures.node old.held.items in
-    container-closed old.input.now old.held.items _ _ _ _ c.in-Some.opened _ (container c.args.kind) (stop (span_of c.args.last)) c.in-Some.ensures.items
+    container-closed old.input.now old.held.items _ _ _ _ c.in-Some.opened _ (container c.args.kind) c.args.end c.in-Some.ensures.items
     c.put.ensures.items (own ∙ ap₂ (container c.args.kind) c.bytes_of_span.ensures c.in-Ok.ensures
     ∙ ap₂ (λ s n. container c.args.kind (text_at old.input.now s) (n - c.in-Some.opened.index)) span long)
 
@@ -22,5 +21,5 @@ pub returns-then-len-opened-clause-closed : goal.returns-then-len-opened-clause-
 returns-then-len-opened-clause-closed c =
     let old = c.args.self.now in
     let long : c.len-len.result ≡ length old.nodes.items = search rules in
-    none-closed old.input.now old.held.items old.nodes.items _ _ c.in-Some.opened (container c.args.kind) (stop (span_of c.args.last)) c.in-Some.ensures.items
+    none-closed old.input.now old.held.items old.nodes.items _ _ c.in-Some.opened (container c.args.kind) c.args.end c.in-Some.ensures.items
     (omega (arith, long, c.if-len-opened.true))
