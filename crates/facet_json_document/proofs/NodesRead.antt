@@ -44,6 +44,14 @@ adds-more old now new was is some told =
       nodes = told.2 ∙ ap (added told.0.kind told.0.span) some.nodes ∙ sym (added-append some.events (p ∷ []) (none_yet old.buffer));
     }
 
+-- No more.
+pub adds-end : (old now new : Now) (was is : NodesSoFar) → AddsSome old now was → AddsNext false now new was is → AddsAll old is.nodes
+adds-end old now new was is some told = record {
+  events = some.events;
+  comes = some.comes ∙ ap (events_before some.events) (next-over now new told.0).over;
+  made = ap (λ (s : NodesSoFar). s.nodes) (told.1 ∙ some.nodes);
+}
+
 -- Or a refusal.
 pub adds-refused : (limit room : Option ℕ) (old now new : Now) (was : NodesSoFar) (r : Refusal) → AddsSome old now was →
     SameBeyond (future_of old) limit (future_of now) room → now.buffer ≡ old.buffer → now.cursor.refusal ≡ None →

@@ -93,10 +93,10 @@ pub record AddsSome (old now : Now) (is : NodesSoFar) : Type 0 where
   pub nodes : is ≡ all_added events (none_yet old.buffer)
 
 -- So it is of the nodes of this input, within the limit, and the parser is not refused.
-pub record AddsSoFar (old : Now) (limit : Option ℕ) (input : List ℕ) (now : Now) (b : Built) : Type 0 where
+pub record AddsSoFar (old : Now) (limit : Option ℕ) (bytes : List ℕ) (now : Now) (b : Built) : Type 0 where
   pub passed : AddsSome old now (built_view b)
   pub buffer : now.buffer ≡ old.buffer
-  pub input : b.input.now ≡ input
+  pub input : b.input.now ≡ bytes
   pub level : SameBeyond (future_of old) limit (future_of now) b.room
   pub free : old.cursor.refusal ≡ None → now.cursor.refusal ≡ None
 
