@@ -7,7 +7,6 @@ use Rattle.std.proofs.lemmas.Str.{IsUtf8-from_is_utf8, is_utf8-from_IsUtf8}
 use Rattle.facet_format.specs.Number.{Hint, unsigned, signed, float}
 use Rattle.facet_format.specs.NumberParts.{parts, parts_len, parts_hint, is_bare, begins_number, is_number, same_hint}
 use Rattle.facet_format.specs.NumberValue.{Number, number, value_by}
-use Rattle.facet_json_token.specs.Cut.{has_backslash}
 use Rattle.facet_json_document.specs.Nodes.{number_tree, small_number, small_if_any}
 use Rattle.facet_json_document.specs.QuotedText.{quoted, IsQuotedText, is_quoted_text}
 

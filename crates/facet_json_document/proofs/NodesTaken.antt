@@ -1,5 +1,5 @@
 -- Events that are passed one after another and taken leave their nodes.
-use Rattle.std.proofs.Common.{◌≡◌, ℕ, true, List, [], reverse, Option, None, Some, refl, sym, ap, ◌∙◌, subst}
+use Rattle.std.proofs.Common.{◌≡◌, ℕ, true, List, [], reverse, Option, refl, sym, ap, ◌∙◌, subst}
 use Rattle.facet_json_grammar.specs.Now.{Now, future_of}
 use Rattle.facet_json_parser.specs.Inner.Wanted.{PassesMore, none_passed, one_passed, none_taken}
 use Rattle.facet_json_reader.specs.Inner.InSight.{not_told, not_taken}
