@@ -49,6 +49,9 @@ pub struct Node<'i> {
     ghost sound: { is_sound kind text.now ≡ true },
 }
 
+// The bytes that a node takes.
+const _: () = prove!(size_of::<Node<'static>>() == 24);
+
 /// A value that holds no others, as its node tells it.
 #[derive(Drop)]
 pub enum Leaf<'d> {
