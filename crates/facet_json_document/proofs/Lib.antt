@@ -10,6 +10,7 @@ pub mod NodesSeen
 pub mod NodesTaken
 pub mod NodesWithin
 pub mod NodesWritten
+pub mod NumbersWritten
 pub mod OneDocuments
 pub mod PieceComments
 pub mod PieceRows

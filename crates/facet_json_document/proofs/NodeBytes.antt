@@ -1,13 +1,17 @@
 -- What a node's bytes tell: whether they are a text in quotes, which text that is, and which number they are.
-use Rattle.std.proofs.Common.{◌≡◌, ℕ, Bool, true, false, cond, List, length, Some, None, not, ◌&&◌, refl, ap, ◌∙◌, leb-true, le-leb}
+use Rattle.std.proofs.Common.{◌≡◌, ℕ, Bool, true, false, cond, List, length, Option, Some, None, not, ◌&&◌, refl, ap, ◌∙◌, leb-true, le-leb}
 use Rattle.std.specs.Prelude.{nat_le, ◌==◌}
-use Rattle.std.specs.Str.{is_utf8}
+use Rattle.std.specs.Str.{IsUtf8, is_utf8}
 use Rattle.std.proofs.lemmas.Bool.{and_parts, and_from}
 use Rattle.std.proofs.lemmas.Str.{IsUtf8-from_is_utf8, is_utf8-from_IsUtf8}
 use Rattle.facet_format.specs.Number.{Hint, unsigned, signed, float}
 use Rattle.facet_format.specs.NumberParts.{parts, parts_len, parts_hint, is_bare, begins_number, is_number, same_hint}
 use Rattle.facet_format.specs.NumberValue.{Number, number, value_by}
-use Rattle.facet_json_document.specs.Nodes.{number_tree, small_number, small_if_any}
+use Rattle.facet_format.specs.NumberValue as numbers
+use Rattle.facet_format.proofs.NumberText.{number-IsUtf8}
+use Rattle.facet_json_document.specs.Nodes.{small_if_any, value_kind}
+use Rattle.facet_json_document.specs.OwnNumber.{is_small, own_number}
+use Rattle.facet_json_document.specs.declared.document.node.ValueKind.TheVariants as kinds
 use Rattle.facet_json_document.specs.QuotedText.{quoted, IsQuotedText, is_quoted_text}
 
 is_false : (b : Bool) → not b ≡ true → b ≡ false
@@ -36,13 +40,13 @@ same-hint signed signed e = refl
 same-hint float float e = refl
 same-hint _ _ e = cc
 
-own-hint : (text : List ℕ) (hint : Hint) → is_number text hint ≡ true → parts_hint (parts text) ≡ hint
+pub own-hint : (text : List ℕ) (hint : Hint) → is_number text hint ≡ true → parts_hint (parts text) ≡ hint
 own-hint text hint e =
     let p = parts text in
     let a = and_parts (begins_number text && not (is_bare p) && (parts_len p == length text)) (same_hint (parts_hint p) hint) e in
     same-hint (parts_hint p) hint a.1
 
-valued : (text : List ℕ) (hint : Hint) (n : Number) → number text hint ≡ Some n → is_number text hint ≡ true
+pub valued : (text : List ℕ) (hint : Hint) (n : Number) → number text hint ≡ Some n → is_number text hint ≡ true
 unfolding number
 valued text hint n e = by (is_number text hint) e
   where
@@ -50,7 +54,23 @@ valued text hint n e = by (is_number text hint) e
     by true _ = refl
     by false none = absurd (cc)
 
--- So a node of a number's bytes is its value.
-pub number-there : (text : List ℕ) (hint : Hint) (n : Number) → number text hint ≡ Some n → number_tree text ≡ small_number n
-number-there text hint n e =
-    ap small_if_any (ap (number text) (own-hint text hint (valued text hint n e)) ∙ e)
+-- So it is the number that its bytes are.
+pub own-read : (text : List ℕ) (hint : Hint) (n : Number) → number text hint ≡ Some n → own_number text ≡ Some n
+own-read text hint n e = ap (number text) (own-hint text hint (valued text hint n e)) ∙ e
+
+-- A small number is a number.
+pub small-kind : (o : Option Number) → is_small o ≡ true → value_kind (small_if_any o) ≡ kinds.Number
+small-kind None small = cc
+small-kind (Some (numbers.u64 n)) small = refl
+small-kind (Some (numbers.i64 n)) small = refl
+small-kind (Some (numbers.decimal digits)) small = refl
+small-kind (Some (numbers.u128 n)) small = cc
+small-kind (Some (numbers.i128 n)) small = cc
+
+-- Its bytes are text.
+pub small-utf8 : (text : List ℕ) → is_small (own_number text) ≡ true → IsUtf8 text
+small-utf8 text small = by (own_number text) refl small
+  where
+    by : (o : Option Number) → own_number text ≡ o → is_small o ≡ true → IsUtf8 text
+    by None e small = cc
+    by (Some n) e small = number-IsUtf8 text (parts_hint (parts text)) (valued text (parts_hint (parts text)) n e)

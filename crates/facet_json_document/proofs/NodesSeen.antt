@@ -17,6 +17,8 @@ use Rattle.facet_json_tree.specs.Content.{as_list, as_pairs}
 use Rattle.facet_json_tree.specs.Lookup.{item, member}
 use Rattle.facet_json_tree.specs.Same.{same_bytes}
 use Rattle.facet_json_document.specs.Nodes.{Node, leaf, key, list, object, closing, nothing, inner_len, is_closing_node, is_leaf, is_key, is_list, is_object, items, members, list_items, object_members, last_named, value_beginning, first_value, values, len, trees_list, pairs_list, node_of, small_if_any, leaf_view, held_leaf, document_nodes, nodes_from, value_view, member_value}
+use Rattle.facet_json_grammar.specs.Text.{Options, text}
+use Rattle.facet_json_document.specs.Inner.PlainNumbers.{IsWrittenSo}
 use Rattle.facet_json_document.specs.Inner.Looking.{HoldsOthers, of_nothing, of_list, of_object, IsLeaf, HasLeaf, TellsLeaf, many, from, seen, trees_from, pairs_from, trees_at, pairs_at, NodeStands, IsItem, MemberStands}
 use Rattle.facet_json_document.specs.declared.document.node.Leaf.{Leaf as RustLeaf}
 use Rattle.facet_json_document.specs.declared.document.node.Node.{Node as RustNode}
@@ -86,6 +88,15 @@ has-leaf closing t later e = absurd e
 
 pub leaf-of : (v : Value) (n : Node) (l : RustLeaf) → NodeStands v v.index n → HasLeaf n (leaf_view l) → value_view v ≡ leaf_view l
 leaf-of v n l s e = value-stands v n s ∙ has-leaf n (leaf_view l) (values (from v (suc v.index))) e
+
+-- What is written so is the value's text.
+pub written-so : (v : Value) (n : Node) (bytes : List ℕ) → NodeStands v v.index n → IsWrittenSo bytes n → (o : Options) (depth : ℕ) →
+    bytes ≡ text o depth (value_view v)
+written-so v (leaf own t) bytes s so o depth = so o depth ∙ ap (text o depth) (sym (value-stands v (leaf own t) s))
+written-so v (key name) bytes s so o depth = absurd so
+written-so v (list own k) bytes s so o depth = absurd so
+written-so v (object own k) bytes s so o depth = absurd so
+written-so v closing bytes s so o depth = absurd so
 
 pub nothing-of : (v : Value) (n : Node) → NodeStands v v.index n → is_leaf n ≡ false → is_list n ≡ false → is_object n ≡ false → value_view v ≡ nothing
 nothing-of v n s e f g = value-stands v n s ∙ neither n _ e f g

@@ -5,3 +5,4 @@ pub mod Held
 pub mod Layout
 pub mod Looking
 pub mod NodeSound
+pub mod PlainNumbers

@@ -5,7 +5,6 @@ use Rattle.std.specs.Borrow.{Bor}
 use Rattle.std.specs.Option.{unwrap_or, option_or, option_and_then}
 use Rattle.facet_format.specs.Event.{Scalar, bytes_of}
 use Rattle.facet_format.specs.Event as event
-use Rattle.facet_format.specs.NumberParts.{parts, parts_hint}
 use Rattle.facet_format.specs.NumberValue.{Number}
 use Rattle.facet_format.specs.NumberValue as numbers
 use Rattle.facet_format.specs.Span.{Span, stop}
@@ -19,6 +18,7 @@ use Rattle.facet_json_grammar.specs.Tree.{Tree, Trees, no_trees, tree, Pairs, no
 use Rattle.facet_json_grammar.specs.Tree as trees
 use Rattle.facet_json_tree.specs.Pointer.{index}
 use Rattle.facet_json_tree.specs.Same.{same_bytes}
+use Rattle.facet_json_document.specs.OwnNumber.{own_number}
 use Rattle.facet_json_document.specs.QuotedText.{quoted}
 use Rattle.facet_json_document.specs.declared.document.node.Node.{Node as RustNode}
 use Rattle.facet_json_document.specs.declared.document.node.NodeKind.{NodeKind}
@@ -242,7 +242,7 @@ small_if_any (Some n) = small_number n
 
 -- the number that bytes are
 abbrev pub number_tree : List ℕ → Tree
-number_tree text = small_if_any (numbers.number text (parts_hint (parts text)))
+number_tree bytes = small_if_any (own_number bytes)
 
 -- a value that no node tells by its bytes
 abbrev pub held_leaf : Option ScalarValue → Tree

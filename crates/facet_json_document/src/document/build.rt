@@ -25,6 +25,7 @@ ghost use Rattle.facet_json_grammar.specs.UnreadLaws.{RefusalWithin};
 ghost use Rattle.facet_json_document.specs.Formatted.{GetsStuckWithin};
 ghost use Rattle.facet_json_document.specs.Nodes.{leaf, key, nothing, node_view, nodes_view};
 ghost use Rattle.facet_json_document.specs.Nodes.{text_at, number_tree};
+ghost use Rattle.facet_json_document.specs.OwnNumber.{is_small, own_number};
 ghost use Rattle.facet_json_document.specs.QuotedText.{IsQuotedText, quoted};
 
 use crate::document::built::{Built, Opened};
@@ -203,6 +204,7 @@ impl<'i> Built<'i> {
     /// Adds the node of the number that these bytes are.
     #[inline(always)]
     fn add_number(&mut self, text: &'i [u8]) -> Result<(), AllocError>
+        requires { is_small (own_number text.now) ≡ true }
         ensures room { self.new.room ≡ self.old.room }
         ensures node { OnOk result (built_view self.new ≡ also (leaf text.now (number_tree text.now)) (built_view self.old)) }
         ensures kept { OnErr result (Kept self.old self.new) }

@@ -1,6 +1,6 @@
 //! What a node tells: which value it is of, of its bytes or of what the document holds beside its nodes.
 
-ghost use Rattle.std.specs.Prelude.{◌≡◌, false, List, ◌∷◌, slice_get, MatchOption};
+ghost use Rattle.std.specs.Prelude.{◌≡◌, true, false, List, ◌∷◌, slice_get, IfSome, MatchOption};
 ghost use Rattle.std.specs.Option.{unwrap_or};
 ghost use Rattle.facet_format.specs.Event.{bytes_of};
 ghost use Rattle.facet_format.specs.Views.{scalar_value_of};
@@ -9,6 +9,8 @@ ghost use Rattle.facet_json_token.specs.NumberViews.{number_of};
 ghost use Rattle.facet_json_core.specs.Told.{tree_of_scalar};
 ghost use Rattle.facet_json_grammar.specs.Tree.{Tree};
 ghost use Rattle.facet_json_document.specs.Inner.Looking.{TellsLeaf, seen_in};
+ghost use Rattle.facet_json_document.specs.Inner.PlainNumbers.{BeginsPlain, IsWrittenSo};
+ghost use Rattle.facet_json_document.specs.OwnNumber.{is_small, own_number};
 ghost use Rattle.facet_json_document.specs.QuotedText.{IsQuotedText, quoted};
 ghost use Rattle.facet_json_document.specs.Nodes.{Node as SpecNode, leaf_view, value_kind, value_beginning, key, node_view, nothing, number_tree, small_number};
 ghost use Rattle.facet_json_document.specs.Nodes.{held_leaf, held_name, is_key, is_list, is_object, is_closing_node, raw_text};
@@ -19,6 +21,7 @@ use crate::document::node::{Leaf, Node, NodeKind, ValueKind};
 use facet_format::numeral::parts_at;
 use facet_format::{Decimal, ScalarValue};
 use facet_json_token::{ParsedNumber, parse_number, plain_text_unchecked};
+use std::str;
 
 impl<'i> Node<'i> {
     /// What the value is that begins here, beside what the document holds.
@@ -27,7 +30,7 @@ impl<'i> Node<'i> {
     {
         match self.kind {
             NodeKind::True | NodeKind::False => ValueKind::Bool,
-            NodeKind::Number => number_leaf(self.text).kind(),
+            NodeKind::Number => ValueKind::Number,
             NodeKind::Text => ValueKind::Text,
             NodeKind::Held => leaf_at(document, self.more as usize).kind(),
             NodeKind::List => ValueKind::List,
@@ -67,6 +70,16 @@ impl<'i> Node<'i> {
             NodeKind::Number => Some(number_leaf(self.text)),
             NodeKind::Text => Some(Leaf::Text(unquoted(self.text))),
             NodeKind::Held => Some(leaf_at(document, self.more as usize)),
+            _ => None,
+        }
+    }
+
+    /// A number that is written as it stands, where its first bytes tell so.
+    pub(crate) fn plain_number(&self) -> Option<&'i str>
+        ensures { IfSome result (λ s. (held : List RustScalar) → IsWrittenSo s.now (node_view held self.now)) }
+    {
+        match self.kind {
+            NodeKind::Number => plain_number(self.text),
             _ => None,
         }
     }
@@ -111,6 +124,32 @@ fn unquoted(text: &[u8]) -> &str
     ensures { result.now ≡ quoted text.now }
 {
     plain_text_unchecked(text, 1, text.len() - 1)
+}
+
+/// A number's bytes as text, where `begins_plain` tells that it is written as it stands.
+fn plain_number(text: &[u8]) -> Option<&str>
+    requires { is_small (own_number text.now) ≡ true }
+    ensures { IfSome result (λ s. (s.now ≡ text.now) × BeginsPlain text.now) }
+{
+    if begins_plain(text) {
+        // All bytes of a number are ASCII.
+        Some(unsafe { str::from_utf8_unchecked(text) })
+    } else {
+        None
+    }
+}
+
+/// Whether the first digit of a number is no zero, or a point is behind that zero. A whole number with another zero in front is written
+/// without it.
+fn begins_plain(text: &[u8]) -> bool
+    ensures { result ≡ true → BeginsPlain text.now }
+{
+    match text.first() {
+        Some(b'1'..=b'9') => true,
+        Some(b'-') => matches!(text.get(1), Some(b'1'..=b'9')),
+        Some(b'0') => matches!(text.get(1), Some(b'.')),
+        _ => false,
+    }
 }
 
 /// The value of a number's bytes.

@@ -1,7 +1,8 @@
 //! A document's value, written by a serializer's calls.
 
-ghost use Rattle.std.specs.Prelude.{◌≡◌, ◌<◌, suc, None, IfErr, OnOk, OnErr};
-ghost use Rattle.facet_json_grammar.specs.Tree.{list, pairs};
+ghost use Rattle.std.specs.Prelude.{◌≡◌, ◌<◌, ℕ, suc, None, IfErr, OnOk, OnErr};
+ghost use Rattle.facet_json_grammar.specs.Text.{Options, text};
+ghost use Rattle.facet_json_grammar.specs.Tree.{Tree, list, pairs};
 ghost use Rattle.facet_json_document.specs.Inner.Looking.{many, pairs_at, trees_at};
 ghost use Rattle.facet_json_document.specs.Nodes.{leaf_view, nothing, value_view};
 ghost use Rattle.facet_json_serializer.specs.Serializer.{out_of_memory};
@@ -57,6 +58,9 @@ fn write_value(
     if node.is_object() {
         return write_members(serializer, value);
     }
+    if let Some(number) = node.plain_number() {
+        return write_plain(serializer, number);
+    }
     match node.leaf(value.document) {
         Some(leaf) => write_leaf(serializer, leaf),
         None => write_nothing(serializer),
@@ -102,6 +106,17 @@ fn write_members(
         at = next;
     }
     serializer.end_struct()
+}
+
+/// Writes a value by its text.
+#[inline(always)]
+fn write_plain(serializer: &mut JsonSerializer<'_>, plain: &str) -> Result<(), JsonSerializeError>
+    ensures written { (t : Tree) → ((o : Options) (depth : ℕ) → plain.now ≡ text o depth t)
+        → OnOk result (HasWritten serializer.old t serializer.new) }
+    ensures refused { IfErr result (λ e. write_refusal_of e ≡ out_of_memory) }
+    ensures spent { OnErr result (serializer.new ≡ None) }
+{
+    serializer.raw_scalar(plain)
 }
 
 /// Writes a value that holds no others.

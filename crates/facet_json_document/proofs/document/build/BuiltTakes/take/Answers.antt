@@ -1,8 +1,14 @@
 -- A number is what its bytes say.
 use Rattle.std.proofs.Common.{refl, sym, ◌∙◌}
 use Rattle.facet_format.specs.Views.{span_of}
-use Rattle.facet_json_document.proofs.PiecesTaken.{if-done, number-taken}
+use Rattle.facet_json_document.proofs.PiecesTaken.{if-done, number-small, number-taken}
 use Rattle.facet_json_document.proofs.document.build.BuiltTakes.take.Goals as goal
+
+pub add_number-requires : goal.add_number-requires
+add_number-requires c =
+    let piece = c.in-Number.is in
+    let told = rw piece at c.requires.piece in
+    number-small _ told.0 told.1
 
 pub returns-in-Number-clause-taken : goal.returns-in-Number-clause-taken
 returns-in-Number-clause-taken c =
