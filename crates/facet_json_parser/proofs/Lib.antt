@@ -4,7 +4,9 @@ pub mod BlockBits
 pub mod EventsInBatch
 pub mod EventsInSight
 pub mod FirstParts
+pub mod Fronts
 pub mod KeptSpots
+pub mod LookaheadSteps
 pub mod MarkSteps
 pub mod OpenRuns
 pub mod OpenedContainers
@@ -18,6 +20,5 @@ pub mod QuietTokens
 pub mod RefusedWithin
 pub mod RunSteps
 pub mod SkippedParts
-pub mod LookaheadSteps
 pub mod UnopenedContainers
 pub mod UnreadTokens

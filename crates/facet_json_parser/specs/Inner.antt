@@ -4,4 +4,5 @@ pub mod Marks
 pub mod Passages
 pub mod Passing
 pub mod Quiet
+pub mod Sight
 pub mod Wanted

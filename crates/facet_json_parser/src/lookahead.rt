@@ -1,7 +1,7 @@
 //! Where a parser stands: after the last token that was passed, with an event that is read but not passed.
 
 ghost use Rattle.std.specs.Prelude.{◌≡◌, ◌≤◌, ℕ, true, false, List, None, length, IfOk, IfErr, OnOk, MatchOption, MatchResult, Ok, Err, Some};
-ghost use Rattle.std.specs.Prelude.{OnSome, IsUtf8, ◌<◌};
+ghost use Rattle.std.specs.Prelude.{OnSome, IfSome, IsUtf8, is_some, ◌<◌};
 ghost use Rattle.std.specs.Option.{option_map};
 ghost use Rattle.std.specs.VecDeque.{deque_len, deque_capacity};
 ghost use Rattle.facet_json_parser.specs.Ready.{IsSound};
@@ -14,18 +14,19 @@ ghost use Rattle.facet_json_grammar.specs.Reader.{future_at};
 ghost use Rattle.facet_json_grammar.specs.Language.{Language as SpecLanguage};
 ghost use Rattle.facet_json_grammar.specs.Now.{on_input};
 ghost use Rattle.facet_json_reader.specs.PlaceViews.{language_of, refused_of};
-ghost use Rattle.facet_json_reader.specs.Views.{passed_of, IsRefusedBefore};
+ghost use Rattle.facet_json_reader.specs.Views.{passed_of, reader_of, IsRefusedBefore};
 ghost use Rattle.facet_json_parser.specs.PartViews.{after_part};
 ghost use Rattle.facet_json_parser.specs.Lookahead.{lookahead_at, lookahead_with, first_lookahead, reader_before, spot_of, HoldsWhatComes};
 ghost use Rattle.facet_json_parser.specs.Lookahead.{TakesHeld, Lends, Withholds};
 ghost use Rattle.facet_json_parser.specs.Views.{lookahead_of};
+ghost use Rattle.facet_json_reader.specs.Inner.InSight.{reader_at, IsFrontOf};
 ghost use Rattle.facet_json_parser.specs.Inner.Wanted.{NeverGives, ReaderPasses};
 ghost use Rattle.facet_json_reader.specs.Inner.Soughts.{event_of_sought};
 
 use crate::part::{Part, find, scalar_in_sight};
 use crate::passing::{capture, leave, pass};
 use facet_format::{ParseEvent, ParseEventKind, Span};
-use facet_json_reader::{Held, Language, Reader, Refused, Sought, Takes, Wanted};
+use facet_json_reader::{Front, Held, Language, Reader, Refused, Sought, Takes, Wanted};
 use facet_json_token::Trust;
 use std::alloc::{AllocError, Global};
 use std::collections::VecDeque;
@@ -120,6 +121,28 @@ impl<'de> Lookahead<'de> {
             return None;
         }
         W::pass(&mut self.reader, input, language, trust)
+    }
+
+    /// How far the reader is, where no event is held, in `Language::Plain`.
+    #[inline(always)]
+    pub fn front(&self, input: &[u8], language: Language) -> Option<Front>
+        requires sound { IsSound input.now (language_of language) (lookahead_of self.now) }
+        ensures held { IfSome result (λ _. is_some self.now.held ≡ false) }
+        ensures front { IfSome result (λ f. IsFrontOf input.now (language_of language) self.now.reader f) }
+    {
+        if self.held.is_some() {
+            return None;
+        }
+        self.reader.front(input, language)
+    }
+
+    /// Stands that far, within the same containers.
+    #[inline(always)]
+    pub fn stand(&mut self, front: Front)
+        ensures { lookahead_of self.new ≡ lookahead_at (reader_of (reader_at (reader_before (lookahead_of self.old)).stack front)) }
+    {
+        self.release();
+        self.reader.stand(front);
     }
 
     /// Consumes events as long as a few bytes decide each of them and it is taken, where none is held.

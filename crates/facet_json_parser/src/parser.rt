@@ -7,6 +7,7 @@ ghost use Rattle.std.specs.VecDeque.{deque_len, deque_capacity};
 ghost use Rattle.facet_format.specs.declared.event.ParseEvent.{ParseEvent as RustEvent};
 ghost use Rattle.facet_format.specs.Cursor.{event, next, peek, events, skip, capture, save, restore, restored, span, spans, refused_at};
 ghost use Rattle.facet_format.specs.Kept.{found, without};
+ghost use Rattle.facet_format.specs.Span.{stop};
 ghost use Rattle.facet_format.specs.Steps.{IsStep};
 ghost use Rattle.facet_format.specs.Views.{event_of, span_of, parse_refusal, answer_of_event, answer_of_events, answer_of_skip};
 ghost use Rattle.facet_format.specs.Views.{answer_of_capture, answer_of_save, answer_of_span};
@@ -17,6 +18,7 @@ ghost use Rattle.facet_json_reader.specs.PlaceViews.{language_of, refused_of};
 ghost use Rattle.facet_json_grammar.specs.Now.{fresh, fresh_in, current_span_of, ahead, future_of, SameInput, GoesOn, StandsAt};
 ghost use Rattle.facet_json_grammar.specs.Move.{Moves, MovesBy, with_kept, without_point};
 ghost use Rattle.facet_json_grammar.specs.Next.{PassesNext, ShowsNext, PassesAll, IsOver};
+ghost use Rattle.facet_json_parser.specs.Inner.Sight.{standing, StandsThere};
 ghost use Rattle.facet_json_parser.specs.Inner.Wanted.{NeverGives, PassesMore, PassesWanted};
 ghost use Rattle.facet_json_reader.specs.Inner.Soughts.{event_of_sought};
 ghost use Rattle.facet_json_grammar.specs.UnreadLaws.{RefusalWithin};
@@ -26,7 +28,7 @@ ghost use Rattle.facet_json_parser.specs.Steps.{QueuesNow};
 use crate::lookahead::Lookahead;
 use crate::points::{Point, bring_back, drop_point, keep};
 use facet_format::{FormatParser, ParseError, ParseEvent, ParseEventKind, SavePoint, Span};
-use facet_json_reader::{Language, Refused, Sought, Takes, Wanted};
+use facet_json_reader::{Front, Language, Refused, Sought, Takes, Wanted};
 use facet_json_token::Trust;
 use std::alloc::Global;
 use std::collections::VecDeque;
@@ -246,6 +248,28 @@ impl<'de> JsonParser<'de> {
             .pass_in_sight(self.input, self.language, takes);
     }
 
+    /// The input, and how far it is, where no event is held, in `Language::Plain`.
+    #[inline(always)]
+    fn front_there(&self) -> Option<(&'de [u8], Front)>
+        ensures input { IfSome result (λ r. r.0.now ≡ self.now.buffer) }
+        ensures there { IfSome result (λ r. StandsThere self.now r.1) }
+    {
+        if self.refusal.is_some() {
+            return None;
+        }
+        let front = self.lookahead.front(self.input, self.language)?;
+        Some((self.input, front))
+    }
+
+    /// Stands that far, within the same containers.
+    #[inline(always)]
+    fn stand_there(&mut self, front: Front)
+        requires within { stop (span_of front.last) ≤ length self.old.buffer }
+        ensures { self.new ≡ standing self.old front }
+    {
+        self.lookahead.stand(front);
+    }
+
     /// Whether something else comes next, as its first byte tells.
     #[inline(always)]
     fn finds_other(&self, sought: Sought) -> bool
@@ -341,6 +365,25 @@ pub fn pass_in_sight<'de, T: Takes<'de>>(parser: &mut JsonParser<'de>, takes: &m
     ensures { PassesMore (T.takes parser.old.buffer) parser.old takes.old parser.new takes.new }
 {
     parser.pass_events(takes);
+}
+
+/// The input, and how far the parser is in it, for who takes keys and scalars in sight: where no event is held and no refusal sticks, in
+/// `Language::Plain`.
+#[inline(always)]
+pub fn front<'de>(parser: &JsonParser<'de>) -> Option<(&'de [u8], Front)>
+    ensures input { IfSome result (λ r. r.0.now ≡ parser.now.buffer) }
+    ensures there { IfSome result (λ r. StandsThere parser.now r.1) }
+{
+    parser.front_there()
+}
+
+/// Lets the parser stand that far, within the same containers.
+#[inline(always)]
+pub fn stand(parser: &mut JsonParser<'_>, front: Front)
+    requires within { stop (span_of front.last) ≤ length parser.old.buffer }
+    ensures { parser.new ≡ standing parser.old front }
+{
+    parser.stand_there(front);
 }
 
 /// Whether something else comes next, as its first byte tells. Where it does not tell, the answer is no. Nothing is read.

@@ -1,5 +1,5 @@
 -- What the first byte of the next token says of the event that comes.
-use Rattle.std.proofs.Common.{◌≡◌, ◌≢◌, ◌⊎◌, inl, inr, ℕ, suc, ◌+◌, Bool, true, false, cond, ◌==◌, List, [], ◌∷◌, length, drop, slice_get, slice_range, Option, Some, None, refl, sym, ap, ◌∙◌}
+use Rattle.std.proofs.Common.{◌≡◌, ◌≢◌, ◌⊎◌, inl, inr, ℕ, suc, ◌+◌, ◌≤◌, Bool, true, false, cond, ◌==◌, List, [], ◌∷◌, length, drop, slice_get, slice_range, Option, Some, None, refl, sym, ap, ◌∙◌, arith}
 use Rattle.std.specs.Prelude.{is_none, ◌&&◌, codes}
 use Rattle.std.specs.Option.{option_map}
 use Rattle.facet_format.specs.Event.{EventKind, Passed, ContainerKind, object, array}
@@ -8,7 +8,7 @@ use Rattle.facet_format.specs.NumberValue as numbers
 use Rattle.facet_format.specs.Event as event
 use Rattle.facet_format.specs.Number.{Hint}
 use Rattle.facet_format.specs.NumberParts.{parts, parts_len, parts_hint, is_bare}
-use Rattle.facet_format.specs.Bytes.{slash, star}
+use Rattle.facet_format.specs.Bytes.{lower_n, slash, star}
 use Rattle.facet_json_token.specs.Gap.{Mode, plain, jsonc}
 use Rattle.facet_json_token.specs.Cut.{Cut, nothing_left, token as a_token, fault, Start, punctuation, letter, opens_text, opens_number, opens_comment, opens_nothing, start_of, cut_here, cut_by, cut_text, cut_number, cut_slash, common_len, content_len, token_at, fault_at, past_gap, cut}
 use Rattle.facet_json_token.specs.Token.{Kind, Token, unexpected_char, unexpected_eof, in_literal, in_block_comment}
@@ -22,6 +22,7 @@ use Rattle.facet_json_grammar.specs.Language.{Language, Rules, lenient, strict, 
 use Rattle.facet_json_grammar.specs.Node.{is_scalar}
 use Rattle.facet_json_grammar.specs.Meaning.{meaning_of, tree_of_number}
 use Rattle.facet_json_grammar.specs.Refusal.{needs_meaning}
+use Rattle.facet_json_grammar.specs.Tree.{Tree}
 use Rattle.facet_json_grammar.specs.Tree as tree
 use Rattle.facet_json_token.specs.Decoded.{decoded}
 use Rattle.facet_json_grammar.specs.Place.{Place, root, after_colon, before_item, next_item, Turn, stops, passes, says, says_scalar, names, place_turn, value_turn}
@@ -34,7 +35,9 @@ use Rattle.facet_json_reader.specs.Inner.Quick.{MayBeValue, Reaches, ComesNo}
 use Rattle.facet_json_reader.specs.declared.sought.Sought.{Sought}
 use Rattle.facet_json_reader.specs.declared.sought.Sought.TheVariants as sought
 use Rattle.facet_json_reader.specs.Inner.Soughts.{event_of_sought, byte_of_sought}
+use Rattle.facet_json_reader.specs.Values.{IsValueThere}
 use Rattle.facet_json_reader.specs.Views.{coming}
+use Rattle.facet_json_reader.proofs.Fronts.{scalar-fits}
 
 -- ---- what a byte begins
 
@@ -332,3 +335,26 @@ pub other-byte : (which : Sought) (buffer : List ℕ) (language : Language) (r :
 other-byte which buffer language r place at b reached may here other p rest comes =
     no_such which p.event.kind
     (byte-excludes (is_event which) (is_sought which) (sought-alike which) buffer language r place at b reached may here (start-other_byte which b other) p rest comes)
+
+-- ---- null
+
+meant-needs : (needs : Bool) (o : Option Tree) (meant : Tree) → o ≡ Some meant → (needs && is_none o) ≡ false
+meant-needs true o meant e = rw e refl
+meant-needs false o meant e = refl
+
+-- A scalar that is null begins with its first letter.
+pub null-begins : (language : Language) (buffer : List ℕ) (at len b : ℕ) → slice_get buffer at ≡ Some b → (b == lower_n) ≡ false →
+    IsValueThere language buffer at len event.null → ⊥
+null-begins language buffer at len b here other there =
+    let is = there.0.there in
+    let t : Token = record { kind = is.kind; span = record { offset = at; len = len } } in
+    let kind = here-other (is_sought sought.Null) (sought-test sought.Null) t plain buffer at b here (start-other_byte sought.Null b other) (is.cut plain) in
+    let told = no_null buffer is.kind (meant-needs (needs_meaning is.kind) (meaning_of buffer is.kind) is.meant is.means) is.scalar kind in
+    let value : event.null ≡ scalar_of is.kind (meaning_of buffer is.kind) = sym there.1 ∙ is.read ∙ ap (scalar_of is.kind) (sym is.means) in
+    let null : is_event sought.Null (event.scalar event.null) ≡ false = ap (λ v. is_event sought.Null (event.scalar v)) value ∙ told in
+    cc
+
+-- Where the buffer has ended, no scalar stands.
+pub null-within : (language : Language) (buffer : List ℕ) (at len : ℕ) → length buffer ≤ at → IsValueThere language buffer at len event.null → ⊥
+null-within language buffer at len after there =
+    let fits = scalar-fits buffer at len there.0.value there.0.there in omega (arith, fits.0, fits.1, after)

@@ -3,7 +3,7 @@ use Rattle.std.proofs.Common.{◌≡◌, ℕ, ◌+◌, ◌-◌, ◌≤◌, ◌<�
 use Rattle.std.specs.Prelude.{IfNone}
 use Rattle.std.proofs.lemmas.List.{length-drop}
 use Rattle.facet_format.specs.Bytes.{colon as colon_byte}
-use Rattle.facet_format.specs.Event.{ContainerKind, Event, EventKind, Scalar, borrowed, field_key, scalar}
+use Rattle.facet_format.specs.Event.{ContainerKind, Event, EventKind, Scalar, borrowed, field_key}
 use Rattle.facet_format.specs.Span.{Span, span_at}
 use Rattle.facet_format.specs.Views.{span_of, container_of}
 use Rattle.facet_format.specs.declared.event.ContainerKind.{ContainerKind as RustContainerKind}
@@ -23,10 +23,10 @@ use Rattle.facet_json_reader.specs.declared.place.Place.{Place as RustPlace}
 use Rattle.facet_json_reader.specs.declared.place.Place.TheVariants as places
 use Rattle.facet_json_reader.specs.declared.reader.Reader.{Reader}
 use Rattle.facet_json_reader.specs.declared.reader.Stage.TheVariants as stages
-use Rattle.facet_json_reader.specs.Inner.InSight.{Stays, not_told, reader_at, IsFront, PassesSeveral, none_more, one_more, none_taken, TakesScalar, PassesOver, PassesBracket, GoesFar}
+use Rattle.facet_json_reader.specs.Inner.InSight.{Stays, not_told, reader_at, IsFront, PassesSeveral, none_more, one_more, none_taken, TakesScalar, PassesAt, PassesScalarAt, PassesOver, PassesBracket, GoesFar}
 use Rattle.facet_json_reader.specs.Inner.Quick.{MayBeValue}
 use Rattle.facet_json_reader.specs.PlaceViews.{place_of, opening_bracket, closing_bracket, opening_token, closing_token, opening_event, closing_event}
-use Rattle.facet_json_reader.specs.Values.{IsPlainText, IsScalarThere}
+use Rattle.facet_json_reader.specs.Values.{IsAllowedThere, IsPlainText, IsScalarThere}
 use Rattle.facet_json_reader.specs.Views.{stage_of, reader_of}
 use Rattle.facet_json_reader.proofs.TokensThere.{there-fits}
 use Rattle.facet_json_reader.proofs.QuickEvents.{bracket-passes, closing-cut, key-passes, opening-cut, opens-here, scalar-passes}
@@ -58,30 +58,51 @@ pub untold : {X T : Type 0} (takes : Option Event → T → T → Type 0) (x : T
 untold takes x Option.None = not_told
 untold takes x (Some answer) = tt
 
+-- The reader within these containers, after this token and at this stage.
+left : (stack : List ContainerKind) (to : Front) (last : Span) (stage : Stage) → span_of to.last ≡ last → stage_of to.stage ≡ stage →
+    reader_of (reader_at stack to) ≡ record { last = last; stack = stack; stage = stage }
+left stack to last stage l s = ap₂ (λ (x : Span) (y : Stage). record { last = x; stack = stack; stage = y }) l s
+
+-- ---- events within the same containers
+
+module _ (buffer : List ℕ) (language : Language) (stack : List ContainerKind) (from to : Front) where
+  -- A scalar is consumed.
+  pub scalar-at : (place : RustPlace) (len : ℕ) (is : IsAllowedThere language buffer from.at len) → MayBeValue (place_of from.place) →
+      after_value stack ≡ within (place_of place) → IsFront buffer language stack from → span_of to.last ≡ span_at from.at len →
+      to.stage ≡ stages.Within place → IsFront buffer language stack to → PassesScalarAt buffer language stack from len is.value to
+  scalar-at place len is may after reached last stage front = record {
+    one = scalar-passes buffer language (reader_at stack from) (place_of from.place) from.at len is.value (span_at from.at len) (reader_at stack to) may
+        reached refl is.there is.allowed (record { new = left stack to (span_at from.at len) (after_value stack) last (ap stage_of stage ∙ sym after) });
+    front = front;
+  }
+
+  -- A key and its colon are consumed.
+  pub key-at : (finish mark : ℕ) (name : List ℕ) → place_turn (place_of from.place) (string (from.at + 1) finish false) ≡ names →
+      Allows language buffer (record { kind = string (from.at + 1) finish false; span = span_at from.at ((finish + 1) - from.at) }) →
+      IsFront buffer language stack from → IsPlainText buffer from.at finish name → from.at < finish → finish < length buffer →
+      mark ≡ past_gap buffer (finish + 1) (gaps language) → slice_get buffer mark ≡ Some colon_byte → span_of to.last ≡ span_at mark 1 →
+      to.stage ≡ stages.Within places.AfterColon → IsFront buffer language stack to →
+      PassesAt buffer language stack from (record { kind = field_key (borrowed name); span = span_at from.at ((finish + 1) - from.at) }) to
+  key-at finish mark name key allowed reached text some room gap here last stage front = record {
+    one = key-passes buffer language (reader_at stack from) (place_of from.place) from.at finish mark name (span_at from.at ((finish + 1) - from.at))
+        (reader_at stack to) key refl allowed reached text some room gap here (record { new = left stack to (span_at mark 1) _ last (ap stage_of stage) });
+    front = front;
+  }
+
 module _ {T : Type 0} (takes : Option Event → T → T → Type 0) (buffer : List ℕ) (language : Language) where
   -- ---- events
 
-  -- where the reader is within these containers, after this token and at this stage
-  left : (stack : List ContainerKind) (to : Front) (last : Span) (stage : Stage) → span_of to.last ≡ last → stage_of to.stage ≡ stage →
-      reader_of (reader_at stack to) ≡ record { last = last; stack = stack; stage = stage }
-  left stack to last stage l s = ap₂ (λ (x : Span) (y : Stage). record { last = x; stack = stack; stage = y }) l s
-
   module _ (stack : List ContainerKind) (from to : Front) (x y : T) where
-    -- A scalar is consumed.
+    -- What is consumed is taken.
+    over-at : (e : Event) → PassesAt buffer language stack from e to → takes (Some e) x y → PassesOver takes buffer language stack from x stack to y
+    over-at e passes taken = record { event = e; one = passes.one; taken = taken; front = passes.front }
+
     pub scalar-over : (place : RustPlace) (len : ℕ) → TakesScalar takes buffer language from.at len x y → MayBeValue (place_of from.place) →
         after_value stack ≡ within (place_of place) → IsFront buffer language stack from → span_of to.last ≡ span_at from.at len →
         to.stage ≡ stages.Within place → IsFront buffer language stack to → PassesOver takes buffer language stack from x stack to y
     scalar-over place len takes_one may after reached last stage front =
-        let is = takes_one.is in
-        record {
-          event = record { kind = scalar is.value; span = span_at from.at len };
-          one = scalar-passes buffer language (reader_at stack from) (place_of from.place) from.at len is.value (span_at from.at len) (reader_at stack to) may
-              reached refl is.there is.allowed (record { new = left stack to (span_at from.at len) (after_value stack) last (ap stage_of stage ∙ sym after) });
-          taken = takes_one.taken;
-          front = front;
-        }
+        over-at _ (scalar-at buffer language stack from to place len takes_one.is may after reached last stage front) takes_one.taken
 
-    -- A key and its colon are consumed.
     pub key-over : (finish mark : ℕ) (name : List ℕ) → place_turn (place_of from.place) (string (from.at + 1) finish false) ≡ names →
         Allows language buffer (record { kind = string (from.at + 1) finish false; span = span_at from.at ((finish + 1) - from.at) }) →
         IsFront buffer language stack from → IsPlainText buffer from.at finish name → from.at < finish → finish < length buffer →
@@ -89,13 +110,8 @@ module _ {T : Type 0} (takes : Option Event → T → T → Type 0) (buffer : Li
         to.stage ≡ stages.Within places.AfterColon → IsFront buffer language stack to →
         takes (Some (record { kind = field_key (borrowed name); span = span_at from.at ((finish + 1) - from.at) })) x y →
         PassesOver takes buffer language stack from x stack to y
-    key-over finish mark name key allowed reached text some room gap here last stage front taken = record {
-      event = record { kind = field_key (borrowed name); span = span_at from.at ((finish + 1) - from.at) };
-      one = key-passes buffer language (reader_at stack from) (place_of from.place) from.at finish mark name (span_at from.at ((finish + 1) - from.at))
-          (reader_at stack to) key refl allowed reached text some room gap here (record { new = left stack to (span_at mark 1) _ last (ap stage_of stage) });
-      taken = taken;
-      front = front;
-    }
+    key-over finish mark name key allowed reached text some room gap here last stage front taken =
+        over-at _ (key-at buffer language stack from to finish mark name key allowed reached text some room gap here last stage front) taken
 
     -- A bracket is consumed, which leaves these containers open.
     bracket-over : (kind : Kind) (way : EventKind) (after : List ContainerKind) → IsFront buffer language stack from →

@@ -54,6 +54,10 @@ pub record IsAllowedThere (language : Language) (buffer : List ℕ) (at len : �
   pub there : IsScalarThere buffer at len value
   pub allowed : Allows language buffer (record { kind = there.kind; span = span_at at len })
 
+-- This one.
+abbrev pub IsValueThere : Language → List ℕ → ℕ → ℕ → Scalar → Type 0
+IsValueThere language buffer at len value = (is : IsAllowedThere language buffer at len) × (is.value ≡ value)
+
 -- At this offset stands such a number, whose value is no text.
 pub record IsNumberThere (language : Language) (buffer : List ℕ) (at len : ℕ) : Type 0 where
   pub scalar : IsAllowedThere language buffer at len

@@ -25,12 +25,12 @@ ghost use Rattle.facet_json_reader.specs.Values.{IsAllowedThere};
 use crate::number::number_len;
 use crate::place::{Language, Place, Turn};
 use crate::reader::{Contexts, Reader, Stage};
+use crate::single::word_at;
 use crate::step::closing_sort;
 use crate::takes::{Piece, Takes};
 use crate::text::text_end;
 use facet_format::{ContainerKind, Span};
 use facet_json_token::Mode;
-use facet_json_token::cutting::common_len;
 use facet_json_token::quick::{empty_gap_end, gap_end};
 
 /// A language that is known where code is compiled.
@@ -81,7 +81,7 @@ impl InLanguage for InStrict {
 
 /// How far it is: after a token, before the next one that is no separator.
 #[derive(Clone, Copy)]
-pub(crate) struct Front {
+pub struct Front {
     /// The last token that was consumed.
     pub(crate) last: Span,
     /// What stands before, within the innermost container.
@@ -89,7 +89,7 @@ pub(crate) struct Front {
     /// The place before the next token that is no separator.
     pub(crate) place: Place,
     /// The offset of that token.
-    pub(crate) at: usize,
+    pub at: usize,
 }
 
 impl Reader {
@@ -233,7 +233,7 @@ fn pass_items<'de, L: InLanguage, T: Takes<'de>>(
 
 /// Whether a key may stand there.
 #[inline(always)]
-fn is_key(place: Place) -> bool
+pub(crate) fn is_key(place: Place) -> bool
     ensures { result ≡ true → (start finish : ℕ) → place_turn (place_of place) (string start finish false) ≡ names }
 {
     matches!(place, Place::BeforeKey | Place::NextKey)
@@ -241,7 +241,7 @@ fn is_key(place: Place) -> bool
 
 /// Whether an item may stand there.
 #[inline(always)]
-fn is_item(place: Place) -> bool
+pub(crate) fn is_item(place: Place) -> bool
     ensures { result ≡ true → MayBeValue (place_of place) }
 {
     matches!(place, Place::BeforeItem | Place::NextItem)
@@ -249,7 +249,7 @@ fn is_item(place: Place) -> bool
 
 /// Whether this byte stands there.
 #[inline(always)]
-fn is_there(input: &[u8], at: usize, byte: u8) -> bool
+pub(crate) fn is_there(input: &[u8], at: usize, byte: u8) -> bool
     ensures { result ≡ true → slice_get input.now at ≡ Some byte }
 {
     match input.get(at) {
@@ -260,7 +260,7 @@ fn is_there(input: &[u8], at: usize, byte: u8) -> bool
 
 /// The offset after the gap at `at`, most likely of white space alone, or none.
 #[inline(always)]
-fn past<L: InLanguage>(input: &[u8], at: usize) -> usize
+pub(crate) fn past<L: InLanguage>(input: &[u8], at: usize) -> usize
     requires { at ≤ length input.now }
     ensures end { result ≡ past_gap input.now at (gaps L.language) }
     ensures within { result ≤ length input.now }
@@ -274,7 +274,7 @@ fn past<L: InLanguage>(input: &[u8], at: usize) -> usize
 
 /// The offset after the gap at `at`, where nearly all gaps are empty: another one is passed by a call.
 #[inline(always)]
-fn past_empty<L: InLanguage>(input: &[u8], at: usize) -> usize
+pub(crate) fn past_empty<L: InLanguage>(input: &[u8], at: usize) -> usize
     requires { at ≤ length input.now }
     ensures end { result ≡ past_gap input.now at (gaps L.language) }
     ensures within { result ≤ length input.now }
@@ -363,7 +363,7 @@ fn pass_scalar<'de, L: InLanguage, T: Takes<'de>>(
 
 /// Behind a value's last token, which takes so many bytes at `at`: at this place, or where a comma follows, behind it at the next one.
 #[inline(always)]
-fn behind<L: InLanguage>(input: &[u8], at: usize, len: usize, place: Place, next: Place) -> Front
+pub(crate) fn behind<L: InLanguage>(input: &[u8], at: usize, len: usize, place: Place, next: Place) -> Front
     requires within { at + len ≤ length input.now }
     requires comma { place_turn (place_of place) comma ≡ passes (place_of next) }
     ensures front { (stack : List SpecContainer) → IsFront input.now L.language stack result }
@@ -393,7 +393,7 @@ fn behind<L: InLanguage>(input: &[u8], at: usize, len: usize, place: Place, next
 
 /// Takes the scalar there, where a few bytes decide it, and returns its length.
 #[inline(always)]
-fn take_scalar<'de, L: InLanguage, T: Takes<'de>>(
+pub(crate) fn take_scalar<'de, L: InLanguage, T: Takes<'de>>(
     input: &'de [u8],
     takes: &mut T,
     at: usize,
@@ -447,10 +447,7 @@ fn take_word<'de, T: Takes<'de>>(
         → IfSome result (λ len. TakesScalar (T.takes input.now) input.now language at len takes.old takes.new) }
     ensures left { IfNone result (Stays (T.takes input.now) takes.old takes.new) }
 {
-    let len = word.len();
-    if common_len(input, at, word) != len {
-        return None;
-    }
+    let len = word_at(input, at, word)?;
     take_piece(input, takes, piece, at, len)
 }
 

@@ -1,8 +1,9 @@
 -- Events that are consumed one after another, each of which is taken, and how far that is.
 use Rattle.std.specs.Prelude.{◌≡◌, ◌∷◌, ℕ, List, Option, Some, None}
-use Rattle.facet_format.specs.Event.{ContainerKind, Event, scalar}
-use Rattle.facet_format.specs.Span.{span_at}
-use Rattle.facet_json_grammar.specs.Language.{Language}
+use Rattle.facet_format.specs.Event.{ContainerKind, Event, Scalar, borrowed, field_key, scalar}
+use Rattle.facet_format.specs.Span.{Span, span_at}
+use Rattle.facet_json_token.specs.Gap.{plain}
+use Rattle.facet_json_grammar.specs.Language.{Language, lenient}
 use Rattle.facet_json_reader.specs.declared.in_sight.Front.{Front}
 use Rattle.facet_json_reader.specs.declared.reader.Reader.{Reader}
 use Rattle.facet_json_reader.specs.declared.reader.Stage.TheVariants as stages
@@ -30,6 +31,26 @@ reader_at stack f = record { last = f.last; contexts = stack; stage = f.stage }
 -- Within these containers it is before the next token.
 abbrev pub IsFront : List ℕ → Language → List ContainerKind → Front → Type 0
 IsFront buffer language stack f = Reaches buffer language (reader_at stack f) (place_of f.place) f.at
+
+-- It is as far as this reader, in the lenient language without comments.
+pub record IsFrontOf (buffer : List ℕ) (language : Language) (r : Reader) (f : Front) : Type 0 where
+  pub spoken : language ≡ lenient plain
+  pub there : reader_at r.contexts f ≡ r
+  pub front : IsFront buffer language r.contexts f
+
+-- One event is consumed within the same containers.
+pub record PassesAt (buffer : List ℕ) (language : Language) (stack : List ContainerKind) (f : Front) (e : Event) (g : Front) : Type 0 where
+  pub one : PassesQuickly buffer language (reader_at stack f) e (reader_at stack g)
+  pub front : IsFront buffer language stack g
+
+-- A key of this name is.
+abbrev pub PassesKeyAt : List ℕ → Language → List ContainerKind → Front → List ℕ → Front → Type 0
+PassesKeyAt buffer language stack f name g =
+    (span : Span) × PassesAt buffer language stack f (record { kind = field_key (borrowed name); span = span }) g
+
+-- A scalar of so many bytes and this value is.
+abbrev pub PassesScalarAt : List ℕ → Language → List ContainerKind → Front → ℕ → Scalar → Front → Type 0
+PassesScalarAt buffer language stack f len value g = PassesAt buffer language stack f (record { kind = scalar value; span = span_at f.at len }) g
 
 -- A scalar of so many bytes stands there, and is taken.
 pub record TakesScalar {T : Type 0} (takes : Option Event → T → T → Type 0) (buffer : List ℕ) (language : Language) (at len : ℕ) (x y : T) : Type 0 where
