@@ -10,6 +10,7 @@ pub mod NextEventComes
 pub mod Passing
 pub mod PrefixBreaksOff
 pub mod Refusing
+pub mod SeenValues
 pub mod StrictFromRoot
 pub mod TakenNext
 pub mod ValueOrBreak

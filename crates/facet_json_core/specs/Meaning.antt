@@ -18,3 +18,4 @@ pub mod ListSteps
 pub mod Shapes
 pub mod Trees
 pub mod Types
+pub mod Scalars

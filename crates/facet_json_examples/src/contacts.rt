@@ -42,6 +42,10 @@ impl<'de> Facet<'de> for Contact<'de> {
         Ok(Contact { id, name, email })
     }
 
+    fn in_sight(_: Global, _: &'de [u8], _: usize, _: bool) -> Option<(Self, usize)> {
+        None
+    }
+
     fn write(&self, serializer: &mut JsonSerializer<'_>) -> Result<(), JsonSerializeError> {
         let fields = Need(&self.id, Need(&self.name, Need(&self.email, Done)));
         write_fields(serializer, &NAMES, &fields)

@@ -38,6 +38,10 @@ impl<'de> Facet<'de> for Person {
         Person::read_owned(alloc, parser)
     }
 
+    fn in_sight(_: Global, _: &'de [u8], _: usize, _: bool) -> Option<(Self, usize)> {
+        None
+    }
+
     fn write(&self, serializer: &mut JsonSerializer<'_>) -> Result<(), JsonSerializeError> {
         let fields = Need(&self.name, Need(&self.age, Done));
         write_fields(serializer, &["name", "age"], &fields)
@@ -83,6 +87,10 @@ impl<'de, T: Facet<'de>> Facet<'de> for Response<T> {
     fn read<'t>(alloc: Global, parser: &mut JsonParser<'de>) -> ReadResult<'t, Self> {
         let Need(status, Need(payload, Done)) = read_fields(alloc, parser, true, &RESPONSE)?;
         Ok(Response { status, payload })
+    }
+
+    fn in_sight(_: Global, _: &'de [u8], _: usize, _: bool) -> Option<(Self, usize)> {
+        None
     }
 
     fn write(&self, serializer: &mut JsonSerializer<'_>) -> Result<(), JsonSerializeError> {
@@ -132,6 +140,10 @@ impl<'de> Facet<'de> for Retry {
 
     fn read<'t>(alloc: Global, parser: &mut JsonParser<'de>) -> Result<Self, DeserializeError<'t>> {
         Retry::read_owned(alloc, parser)
+    }
+
+    fn in_sight(_: Global, _: &'de [u8], _: usize, _: bool) -> Option<(Self, usize)> {
+        None
     }
 
     fn write(&self, serializer: &mut JsonSerializer<'_>) -> Result<(), JsonSerializeError> {
@@ -196,6 +208,10 @@ impl<'de> Facet<'de> for Config {
 
     fn read<'t>(alloc: Global, parser: &mut JsonParser<'de>) -> Result<Self, DeserializeError<'t>> {
         Config::read_owned(alloc, parser)
+    }
+
+    fn in_sight(_: Global, _: &'de [u8], _: usize, _: bool) -> Option<(Self, usize)> {
+        None
     }
 
     fn write(&self, serializer: &mut JsonSerializer<'_>) -> Result<(), JsonSerializeError> {

@@ -1,7 +1,9 @@
 pub mod FirstRead
+pub mod ItemsInSight
 pub mod ListCalls
 pub mod MapCalls
 pub mod RootComes
 pub mod RunBegins
 pub mod ScalarsOfRust
+pub mod SeenScalars
 pub mod StrictRootComes

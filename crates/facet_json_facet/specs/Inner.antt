@@ -1,3 +1,4 @@
 -- Lemmas that the laws of private traits want here.
+pub mod ItemsInSight
 pub mod Numbers
 pub mod Taking

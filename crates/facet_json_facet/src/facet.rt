@@ -1,11 +1,12 @@
 //! The trait of types that are read from JSON and written as JSON.
 
-ghost use Rattle.std.specs.Prelude.{◌≡◌, ◌<◌, true, false, cond, None, OnOk, OnErr, IfOk, IfErr};
+ghost use Rattle.std.specs.Prelude.{◌≡◌, ◌<◌, true, false, cond, None, OnOk, OnErr, IfOk, IfErr, IfSome};
 ghost use Rattle.facet_json_serializer.specs.Serializer.{out_of_memory};
 ghost use Rattle.facet_json_serializer.specs.Views.{write_refusal_of as writing_refusal_of};
 ghost use Rattle.facet_json_tree.specs.Write.{HasWritten, IsOfRust};
 ghost use Rattle.facet_json_core.specs.Calls.{refusal_of, ahead, RefusalWithin, TellsRefusal, KeepsOn, PassesValue, IsRead, IsUnread};
 ghost use Rattle.facet_json_core.specs.Calls.{HasDocument, EndsStrictly};
+ghost use Rattle.facet_json_core.specs.Meaning.Scalars.{IsSeen};
 
 use facet_format::DeserializeError;
 use facet_json_parser::JsonParser;
@@ -84,6 +85,18 @@ pub trait Facet<'de>: Sized + Drop {
         ensures within { IfErr result (λ e. RefusalWithin parser.new.buffer (refusal_of e)) }
         ensures free { OnOk result (parser.new.cursor.refusal ≡ None) }
         ensures tells { IfErr result (λ e. TellsRefusal parser.old parser.new (refusal_of e)) };
+
+    /// The value of the scalar at this offset of an input without comments that is read leniently, and how many bytes it takes, where a few
+    /// bytes decide it. It may borrow of the input where `borrows` says so. Where there is no answer, `read` or `read_owned` reads the value, and
+    /// says what is wrong: so a type may always answer `None`, and is read faster as a field or an item where it does not.
+    fn in_sight(
+        alloc: Global,
+        input: &'de [u8],
+        at: usize,
+        borrows: bool,
+    ) -> Option<(Self, usize)>
+        ensures seen { IfSome result (λ r. IsSeen (cond borrows shape.reading_borrowed shape.reading) input.now at r.1 (view r.0)) }
+        ensures owned { borrows ≡ false → IfSome result (λ r. owned r.0) };
 
     /// Writes the value, where a value stands, in the layout of the serializer's options.
     ///

@@ -9,7 +9,7 @@ ghost use Rattle.facet_json_core.specs.Meaning.Readings.{taken, leaf};
 ghost use Rattle.facet_json_core.specs.Calls.{refusal_of, ahead, RefusalWithin, TellsRefusal, KeepsOn, PassesValue, IsRead, IsUnread};
 ghost use Rattle.facet_json_core.specs.Calls.{HasDocument, EndsStrictly};
 ghost use Rattle.facet_json_core.specs.Meaning.Taking.{TakesNext};
-ghost use Rattle.facet_json_facet.specs.Inner.Taking.{IsTakenOf};
+ghost use Rattle.facet_json_facet.specs.Inner.Taking.{IsTakenOf, IsTakenThere};
 
 use crate::facet::Facet;
 use facet_format::{DeserializeError, FormatSerializer, ParseEvent, ScalarValue};
@@ -69,6 +69,14 @@ pub(crate) trait FromScalar: Sized + Drop {
         ensures { MatchOption result (parser.new ≡ parser.old)
             (λ answer. (given : Event) × TakesNext parser.old given parser.new × IsTakenOf view takes refuses given answer) };
 
+    /// The value of the scalar at this offset and how many bytes it takes, where a few bytes decide it and there is memory for it.
+    #[inline(always)]
+    fn scalar_in_sight(alloc: Global, input: &[u8], at: usize) -> Option<(Self, usize)>
+        ensures { IfSome result (λ r. IsTakenThere takes input.now at r.1 (view r.0)) }
+    {
+        None
+    }
+
     /// The scalar as which a value is written.
     fn to_scalar(&self) -> ScalarValue<'_>
         ensures tree { tree_of (view self.now) ≡ scalar_tree (scalar_value_of result) }
@@ -116,6 +124,16 @@ impl<'de, T: FromScalar> Facet<'de> for T {
     #[inline(always)]
     fn read<'t>(alloc: Global, parser: &mut JsonParser<'de>) -> Result<T, DeserializeError<'t>> {
         T::read_owned(alloc, parser)
+    }
+
+    #[inline(always)]
+    fn in_sight(
+        alloc: Global,
+        input: &'de [u8],
+        at: usize,
+        _borrows: bool,
+    ) -> Option<(T, usize)> {
+        T::scalar_in_sight(alloc, input, at)
     }
 
     fn write(&self, serializer: &mut JsonSerializer<'_>) -> Result<(), JsonSerializeError> {

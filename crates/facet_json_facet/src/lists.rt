@@ -1,14 +1,16 @@
 //! Lists: `Vec`.
 
-ghost use Rattle.std.specs.Prelude.{◌≡◌, ◌<◌, false, cond, map, None, IfOk, IfErr, OnOk};
+ghost use Rattle.std.specs.Prelude.{◌≡◌, ◌<◌, ◌∷◌, false, cond, map, List, None, IfOk, IfErr, OnOk};
 ghost use Rattle.std.specs.List.{All};
+ghost use Rattle.facet_format.specs.Event.{ContainerKind, array};
 ghost use Rattle.facet_json_core.specs.Meaning.Lists.{list_of};
+ghost use Rattle.facet_json_facet.specs.Inner.ItemsInSight.{ReadsItems};
 ghost use Rattle.facet_json_core.specs.Calls.{refusal_of, ahead, RefusalWithin, TellsRefusal, KeepsOn, PassesValue, IsRead, IsUnread};
 
 use crate::facet::{Facet, value_in};
 use facet_format::{DeserializeError, FormatSerializer};
 use facet_json_core::steps::{begin_list, take_end};
-use facet_json_parser::JsonParser;
+use facet_json_parser::{JsonParser, front, stand};
 use facet_json_serializer::{JsonSerializeError, JsonSerializer};
 use std::alloc::Global;
 
@@ -52,6 +54,10 @@ impl<'de, T: Facet<'de>> Facet<'de> for Vec<T> {
         list_in(alloc, parser, true)
     }
 
+    fn in_sight(_: Global, _: &'de [u8], _: usize, _: bool) -> Option<(Self, usize)> {
+        None
+    }
+
     fn write(&self, serializer: &mut JsonSerializer<'_>) -> Result<(), JsonSerializeError> {
         serializer.begin_seq()?;
         for item in self.as_slice() {
@@ -87,8 +93,40 @@ fn list_in<'t, 'de, T: Facet<'de>>(
 {
     begin_list(parser)?;
     let mut items = Vec::new(alloc);
-    while !take_end(parser)? {
+    loop {
+        items_in_sight(&mut items, alloc, parser, borrows);
+        if take_end(parser)? {
+            return Ok(items);
+        }
         items.push(value_in(alloc, parser, borrows)?)?;
     }
-    Ok(items)
+}
+
+/// Reads items that are scalars, as long as a few bytes decide each of them and there is room for it.
+#[inline(always)]
+fn items_in_sight<'de, T: Facet<'de>>(
+    items: &mut Vec<T>,
+    alloc: Global,
+    parser: &mut JsonParser<'de>,
+    borrows: bool,
+)
+    ensures read { (others : List ContainerKind) → parser.old.cursor.spot.place.stack ≡ array ∷ others
+        → ReadsItems (cond borrows T.shape.reading_borrowed T.shape.reading) parser.old (map T.view items.old.items) parser.new
+        (map T.view items.new.items) }
+    ensures owned { borrows ≡ false → All T.owned items.old.items → All T.owned items.new.items }
+{
+    let Some((input, from)) = front(parser) else {
+        return;
+    };
+    let mut at = from;
+    while at.is_item() {
+        let Some((item, len)) = T::in_sight(alloc, input, at.at, borrows) else {
+            break;
+        };
+        let Ok(()) = items.push(item) else {
+            break;
+        };
+        at = at.behind_item(input, len);
+    }
+    stand(parser, at);
 }

@@ -44,6 +44,10 @@ impl<'de, T: Facet<'de>> Facet<'de> for BTreeMap<String, T> {
         map_in(alloc, parser, true)
     }
 
+    fn in_sight(_: Global, _: &'de [u8], _: usize, _: bool) -> Option<(Self, usize)> {
+        None
+    }
+
     fn write(&self, serializer: &mut JsonSerializer<'_>) -> Result<(), JsonSerializeError> {
         serializer.begin_struct()?;
         for (key, value) in self {

@@ -9,6 +9,7 @@ use crate::facet::{Facet, value_in};
 use facet_format::{DeserializeError, FormatSerializer, ScalarValue};
 use facet_json_core::steps::take_null;
 use facet_json_parser::JsonParser;
+use facet_json_reader::{begins_null, null_at};
 use facet_json_serializer::{JsonSerializeError, JsonSerializer};
 use std::alloc::Global;
 
@@ -44,6 +45,20 @@ impl<'de, T: Facet<'de>> Facet<'de> for Option<T> {
         parser: &mut JsonParser<'de>,
     ) -> Result<Option<T>, DeserializeError<'t>> {
         optional_in(alloc, parser, true)
+    }
+
+    #[inline(always)]
+    fn in_sight(
+        alloc: Global,
+        input: &'de [u8],
+        at: usize,
+        borrows: bool,
+    ) -> Option<(Option<T>, usize)> {
+        if begins_null(input, at) {
+            return Some((None, null_at(input, at)?));
+        }
+        let (value, len) = T::in_sight(alloc, input, at, borrows)?;
+        Some((Some(value), len))
     }
 
     fn write(&self, serializer: &mut JsonSerializer<'_>) -> Result<(), JsonSerializeError> {

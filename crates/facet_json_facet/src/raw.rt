@@ -54,6 +54,10 @@ impl<'de> Facet<'de> for RawJson<'de> {
         Ok(RawJson::new(captured(parser)?))
     }
 
+    fn in_sight(_: Global, _: &'de [u8], _: usize, _: bool) -> Option<(Self, usize)> {
+        None
+    }
+
     fn write(&self, serializer: &mut JsonSerializer<'_>) -> Result<(), JsonSerializeError> {
         serializer.raw_scalar(self.as_str())
     }

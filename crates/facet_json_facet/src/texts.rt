@@ -16,6 +16,7 @@ use facet_format::{
 use facet_json_core::steps::take_next;
 use facet_json_core::{mismatch, next_of_value};
 use facet_json_parser::JsonParser;
+use facet_json_reader::text_at;
 use facet_json_serializer::{JsonSerializeError, JsonSerializer};
 use std::alloc::Global;
 use std::borrow::CowStr;
@@ -56,6 +57,15 @@ impl FromScalar for String {
     ) -> Option<Result<String, DeserializeError<'t>>> {
         let (text, _): (&str, Span) = take_next(parser)?;
         Some(owned_text(alloc, text))
+    }
+
+    #[inline(always)]
+    fn scalar_in_sight(alloc: Global, input: &[u8], at: usize) -> Option<(String, usize)> {
+        let (text, len) = text_at(input, at)?;
+        match String::from_str(alloc, text) {
+            Ok(owned) => Some((owned, len)),
+            Err(_) => None,
+        }
     }
 
     fn to_scalar(&self) -> ScalarValue<'_> {
@@ -103,6 +113,20 @@ impl<'de> Facet<'de> for &'de str {
         match take_next(parser) {
             Some((text, _)) => Ok(text),
             None => lent_out_of_line(parser),
+        }
+    }
+
+    #[inline(always)]
+    fn in_sight(
+        _alloc: Global,
+        input: &'de [u8],
+        at: usize,
+        borrows: bool,
+    ) -> Option<(&'de str, usize)> {
+        if borrows {
+            text_at(input, at)
+        } else {
+            None
         }
     }
 

@@ -42,6 +42,10 @@ impl<'de> Facet<'de> for Tree {
         Tree::read_owned(alloc, parser)
     }
 
+    fn in_sight(_: Global, _: &'de [u8], _: usize, _: bool) -> Option<(Self, usize)> {
+        None
+    }
+
     fn write(&self, serializer: &mut JsonSerializer<'_>) -> Result<(), JsonSerializeError> {
         write_tree(serializer, self)
     }

@@ -5,6 +5,7 @@ use facet_format::{DeserializeError, ParseEvent, ParseEventKind, ScalarValue};
 use facet_json_core::mismatch;
 use facet_json_core::steps::take_next;
 use facet_json_parser::JsonParser;
+use facet_json_reader::bool_at;
 use std::alloc::Global;
 
 impl FromScalar for bool {
@@ -42,6 +43,11 @@ impl FromScalar for bool {
     ) -> Option<Result<bool, DeserializeError<'t>>> {
         let (value, _) = take_next(parser)?;
         Some(Ok(value))
+    }
+
+    #[inline(always)]
+    fn scalar_in_sight(_alloc: Global, input: &[u8], at: usize) -> Option<(bool, usize)> {
+        bool_at(input, at)
     }
 
     fn to_scalar(&self) -> ScalarValue<'_> {

@@ -5,6 +5,8 @@ ghost use Rattle.facet_format.specs.Complaint.{number_out_of_range, refusal_at};
 ghost use Rattle.facet_format.specs.Views.{event_of, refusal_of, scalar_value_of, span_of};
 ghost use Rattle.facet_json_core.specs.Refusing.{mismatch_of};
 ghost use Rattle.facet_json_serializer.specs.Serializer.{scalar_tree};
+ghost use Rattle.facet_format.specs.Event.{scalar};
+ghost use Rattle.facet_json_reader.specs.Inner.Whole.{whole_scalar};
 ghost use Rattle.facet_json_core.specs.Meaning.Readings.{taken, whole_of};
 
 use crate::leaves::FromScalar;
@@ -14,7 +16,7 @@ use facet_format::{
 use facet_json_core::mismatch;
 use facet_json_core::steps::take_next;
 use facet_json_parser::JsonParser;
-use facet_json_reader::Whole;
+use facet_json_reader::{Whole, whole_at};
 use std::alloc::Global;
 use std::num::TryFromIntError;
 
@@ -73,11 +75,14 @@ impl<T: Number> FromScalar for T {
         parser: &mut JsonParser<'_>,
     ) -> Option<Result<T, DeserializeError<'t>>> {
         let (whole, span) = take_next(parser)?;
-        let number = match whole {
-            Whole::Unsigned(n) => i128::from(n),
-            Whole::Signed(n) => i128::from(n),
-        };
-        Some(held(number, span))
+        Some(held(wide(whole), span))
+    }
+
+    #[inline(always)]
+    fn scalar_in_sight(_alloc: Global, input: &[u8], at: usize) -> Option<(T, usize)> {
+        let (whole, len) = whole_at(input, at)?;
+        let number = fitted(wide(whole))?;
+        Some((number, len))
     }
 
     fn to_scalar(&self) -> ScalarValue<'_> {
@@ -87,6 +92,28 @@ impl<T: Number> FromScalar for T {
     ghost refuses_about = { λ given r told. inr (either-about given told refl) };
 
     ghost reads_back = { T.laws.reads_back };
+}
+
+/// The number in 128 bits.
+#[inline(always)]
+fn wide(whole: Whole) -> i128
+    ensures { taken whole_of (scalar (whole_scalar whole)) ≡ Some result }
+{
+    match whole {
+        Whole::Unsigned(n) => i128::from(n),
+        Whole::Signed(n) => i128::from(n),
+    }
+}
+
+/// The number as a value of the type, if it holds it.
+#[inline(always)]
+fn fitted<T: Number>(number: i128) -> Option<T>
+    ensures { result ≡ T.number.holds number }
+{
+    match T::try_from(number) {
+        Ok(n) => Some(n),
+        Err(_) => None,
+    }
 }
 
 /// The number as a value of the type.
@@ -101,9 +128,9 @@ fn held<'t, T: Number>(number: i128, span: Span) -> Result<T, DeserializeError<'
     ensures span { IfErr result (λ e. e.span ≡ Some span) }
     ensures told { IfErr result (λ e. refusal_of e ≡ refusal_at (number_out_of_range T.number.called) (span_of span)) }
 {
-    match T::try_from(number) {
-        Ok(n) => Ok(n),
-        Err(_) => Err(out_of_range(T::name(), span)),
+    match fitted(number) {
+        Some(n) => Ok(n),
+        None => Err(out_of_range(T::name(), span)),
     }
 }
 

@@ -1,7 +1,7 @@
 //! Keys and scalars in sight, one by one, for who knows what is to come: a few bytes decide each of them. It is in `Language::Plain`, and
 //! how far it is is handed from one to the next.
 
-ghost use Rattle.std.specs.Prelude.{◌≡◌, ◌≤◌, ◌+◌, ℕ, true, false, List, Some, length, slice_get, IfNone, IfSome};
+ghost use Rattle.std.specs.Prelude.{◌≡◌, ◌≤◌, ◌<◌, ◌+◌, ℕ, true, false, List, Some, length, slice_get, IfNone, IfSome};
 ghost use Rattle.facet_format.specs.Event.{ContainerKind as SpecContainer, Scalar, text, borrowed, bool, null};
 ghost use Rattle.facet_format.specs.Span.{stop, span_at};
 ghost use Rattle.facet_format.specs.Views.{span_of};
@@ -62,6 +62,8 @@ impl Front {
         ensures over { IfSome result (λ r. (stack : List SpecContainer) → IsFront input.now (lenient plain) stack self
             → PassesKeyAt input.now (lenient plain) stack self r.0.now r.1) }
         ensures place { IfSome result (λ r. r.1.place ≡ Place.AfterColon) }
+        ensures within { IfSome result (λ r. stop (span_of r.1.last) ≤ length input.now) }
+        ensures onward { IfSome result (λ r. (self.at < r.1.at) × (self.at < length input.now)) }
     {
         if !is_key(self.place) || !is_there(input, self.at, b'"') {
             return None;
@@ -79,7 +81,9 @@ impl Front {
     #[inline(always)]
     pub fn behind_member(self, input: &[u8], len: usize) -> Front
         requires within { self.at + len ≤ length input.now }
-        ensures { (stack : List SpecContainer) (value : Scalar) → MayBeValue (place_of self.place)
+        ensures within { stop (span_of result.last) ≤ length input.now }
+        ensures onward { self.at + len ≤ result.at }
+        ensures over { (stack : List SpecContainer) (value : Scalar) → MayBeValue (place_of self.place)
             → after_value stack ≡ within after_member → IsFront input.now (lenient plain) stack self
             → IsValueThere (lenient plain) input.now self.at len value
             → PassesScalarAt input.now (lenient plain) stack self len value result }
@@ -105,7 +109,9 @@ impl Front {
     #[inline(always)]
     pub fn behind_item(self, input: &[u8], len: usize) -> Front
         requires within { self.at + len ≤ length input.now }
-        ensures { (stack : List SpecContainer) (value : Scalar) → MayBeValue (place_of self.place)
+        ensures within { stop (span_of result.last) ≤ length input.now }
+        ensures onward { self.at + len ≤ result.at }
+        ensures over { (stack : List SpecContainer) (value : Scalar) → MayBeValue (place_of self.place)
             → after_value stack ≡ within after_item → IsFront input.now (lenient plain) stack self
             → IsValueThere (lenient plain) input.now self.at len value
             → PassesScalarAt input.now (lenient plain) stack self len value result }
@@ -122,6 +128,7 @@ fn after_colon(input: &[u8], colon: usize) -> Front
     ensures last { span_of result.last ≡ span_at colon 1 }
     ensures stage { result.stage ≡ Stage.Within Place.AfterColon }
     ensures place { result.place ≡ Place.AfterColon }
+    ensures onward { colon < result.at }
 {
     Front {
         last: Span::new(colon, 1),

@@ -40,6 +40,10 @@ impl<'de, T: Facet<'de>> Facet<'de> for Named<T> {
         Ok(Named(T::read(alloc, parser)?))
     }
 
+    fn in_sight(_: Global, _: &'de [u8], _: usize, _: bool) -> Option<(Self, usize)> {
+        None
+    }
+
     fn write(&self, serializer: &mut JsonSerializer<'_>) -> Result<(), JsonSerializeError> {
         self.0.write(serializer)
     }
@@ -81,6 +85,10 @@ impl<'de> Facet<'de> for Percent {
         parser: &mut JsonParser<'de>,
     ) -> Result<Percent, DeserializeError<'t>> {
         Percent::read_owned(alloc, parser)
+    }
+
+    fn in_sight(_: Global, _: &'de [u8], _: usize, _: bool) -> Option<(Self, usize)> {
+        None
     }
 
     fn write(&self, serializer: &mut JsonSerializer<'_>) -> Result<(), JsonSerializeError> {
@@ -135,6 +143,10 @@ impl<'de> Facet<'de> for LentPerson<'de> {
     ) -> Result<LentPerson<'de>, DeserializeError<'t>> {
         let Need(name, Need(age, Done)) = read_fields(alloc, parser, true, &["name", "age"])?;
         Ok(LentPerson { name, age })
+    }
+
+    fn in_sight(_: Global, _: &'de [u8], _: usize, _: bool) -> Option<(Self, usize)> {
+        None
     }
 
     fn write(&self, serializer: &mut JsonSerializer<'_>) -> Result<(), JsonSerializeError> {

@@ -3,6 +3,7 @@ pub mod BorrowedLaws
 pub mod LeafLaws
 pub mod LeafReadings
 pub mod RawLaws
+pub mod ScalarReadings
 pub mod TextLaws
 pub mod TruthLaws
 pub mod WholeNumbers

@@ -46,6 +46,10 @@ pub record StaysBefore (is : EventKind → Bool) (old new : Now) : Type 0 where
   pub finds : (w : Source) (c : Cursor ℕ) (p : Passed) → StandsAt old w c → c.refusal ≡ None →
       slice_get w.events c.spot.place ≡ Some p → StaysThere is w c p new
 
+-- An event is passed that ends no list.
+abbrev pub PassesItem : Now → Now → Type 0
+PassesItem old new = (given : Event) × (ends_list given.kind ≡ false) × WalksPast old given new
+
 -- Whether such an event is looked for in place of a value.
 abbrev pub is_sought : Sought → EventKind → Bool
 is_sought sought.ListEnd = ends_list

@@ -60,7 +60,7 @@ lent-scalar : (kind : Kind) (value : Option Tree) →
 lent-scalar kind (Some (trees.text bytes)) = lent-text kind bytes
 lent-scalar kind _ = none-both (is_plain_string kind)
 
-lent-first : (buffer : List ℕ) (n : Node) → lent (first_event buffer n).event.kind ≡ borrowed_text buffer n
+pub lent-first : (buffer : List ℕ) (n : Node) → lent (first_event buffer n).event.kind ≡ borrowed_text buffer n
 lent-first buffer (scalar t) = lent-scalar t.kind (meaning buffer t)
 lent-first buffer (node.array first last nodes) = refl
 lent-first buffer (node.object first last inside) = refl

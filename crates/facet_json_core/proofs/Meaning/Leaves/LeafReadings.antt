@@ -54,7 +54,7 @@ told-scalar p f rest _ value k (an_object _ _ _ kind members q h) = cc
 
 module _ {V : Type 0} (value : Tree → Option V) where
   -- What is taken from the first event of a node is the node's reading.
-  leaf-taken : (buffer : List ℕ) (n : Node) (t : Tree) (p : Passed) (others rest : List Passed) → tree_of buffer n ≡ Some t →
+  pub leaf-taken : (buffer : List ℕ) (n : Node) (t : Tree) (p : Passed) (others rest : List Passed) → tree_of buffer n ≡ Some t →
       walk buffer n ++ others ≡ p ∷ rest → taken value p.event.kind ≡ leaf value buffer n
   unfolding walk tree_of
   leaf-taken buffer (scalar token) t p others rest meant e =

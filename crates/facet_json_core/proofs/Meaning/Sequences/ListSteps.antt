@@ -22,7 +22,7 @@ use Rattle.facet_json_core.specs.Meaning.Passing.{WalksPast, LacksAlone}
 use Rattle.facet_json_core.specs.Meaning.Reading.{IsRead, IsUnread}
 use Rattle.facet_json_core.specs.Meaning.Lists.{put_value, items_of, list_of}
 use Rattle.facet_json_core.specs.Meaning.ListSteps.{nodes_of, begins_list, ends_list, BeginsList, IsNoList}
-use Rattle.facet_json_core.specs.Meaning.Taking.{Takes, StaysThere, StaysBefore}
+use Rattle.facet_json_core.specs.Meaning.Taking.{Takes, StaysThere, StaysBefore, PassesItem}
 use Rattle.facet_json_core.proofs.Meaning.Walks.FirstEvents.{first_event, first-passed}
 use Rattle.facet_json_core.proofs.Meaning.WalkPlaces.{drop-get, drop-suc, drop-node}
 
@@ -272,6 +272,16 @@ module _ {V : Type 0} (reading : List ℕ → Node → Option V) where
           record { nodes = l.nodes; is = l.is; at = at-spot now new w c n l.nodes l.at there.0 is },
           goes-on now w c n l.nodes l.at there.0 there.1 is.other,
         );
+  }
+
+  -- An event that ends no list is an item's.
+  pub list-goes_past : (old now new : Now) (values : List V) → ReadSoFar old values now → PassesItem now new → BeforeItem old values now
+  list-goes_past old now new values so passes = record {
+    left = λ w c n before.
+        let l = so.left w c n before in
+        let p = passes.2 w l.at.cursor l.at.stands l.at.free in
+        let other : ends_list p.passed.event.kind ≡ false = ap (λ (e : Event). ends_list e.kind) p.same ∙ passes.1 in
+        (l, goes-on now w c n l.nodes l.at p.passed p.at_place other);
   }
 
   -- ---- an item

@@ -30,7 +30,7 @@ first_event buffer (scalar t) = scalar_event buffer t
 first_event buffer (node.array first last nodes) = event_at (sequence_start array) first
 first_event buffer (node.object first last inside) = event_at (struct_start object) first
 
-walk-begins : (buffer : List ℕ) (n : Node) (others : List Passed) →
+pub walk-begins : (buffer : List ℕ) (n : Node) (others : List Passed) →
     (rest : List Passed) × (walk buffer n ++ others ≡ first_event buffer n ∷ rest)
 unfolding walk
 walk-begins buffer (scalar t) others = (others, refl)

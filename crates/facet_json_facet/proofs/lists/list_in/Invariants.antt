@@ -1,19 +1,13 @@
-use Rattle.std.proofs.Common.{◌≡◌, ◌<◌, false, cond, map}
+use Rattle.std.proofs.Common.{◌≡◌, false, cond, map}
 use Rattle.std.specs.List.{All}
-use Rattle.facet_format.specs.Event.{array}
 use Rattle.facet_json_grammar.specs.Now.{ahead}
-use Rattle.facet_json_core.specs.Meaning.Nodes.{KeepsOn}
-use Rattle.facet_json_core.specs.Meaning.OneValue.{IsInside}
-use Rattle.facet_json_core.proofs.Meaning.Sequences.ListSteps.{ReadSoFar}
+use Rattle.facet_json_facet.proofs.ItemsInSight.{IsListUnderWay}
 use Rattle.facet_json_facet.proofs.lists.list_in.Given as goal
 
 abbrev pub invariant-loop-items : goal.invariant-loop-items
 invariant-loop-items g l = record {
-  so_far : ReadSoFar (cond l.fn.borrows g.T.Facet.shape.reading_borrowed g.T.Facet.shape.reading) l.fn.parser (map g.T.Facet.view l.items.items) l.parser;
+  way : IsListUnderWay (cond l.fn.borrows g.T.Facet.shape.reading_borrowed g.T.Facet.shape.reading) l.fn.parser (map g.T.Facet.view l.items.items) l.parser;
   owned : l.fn.borrows ≡ false → All g.T.Facet.owned l.items.items;
-  keeps : KeepsOn l.fn.parser l.parser;
-  shorter : ahead l.parser < ahead l.fn.parser;
-  inside : IsInside array l.fn.parser l.parser;
 }
 
 abbrev pub decreases-loop-items : goal.decreases-loop-items

@@ -5,8 +5,8 @@ use Rattle.facet_json_reader.specs.Inner.InSight.{PassesScalarAt}
 use Rattle.facet_json_reader.proofs.Fronts.{scalar-at}
 use Rattle.facet_json_reader.proofs.in_sight.Front.behind_member.Goals as goal
 
-pub returns : goal.returns
-returns c =
+pub returns-clause-over : goal.returns-clause-over
+returns-clause-over c =
     λ stack value may after reached is.
     let behind = c.behind.ensures in
     subst (λ v. PassesScalarAt c.args.input.now _ stack c.args.self c.args.len v c.behind.result) is.1
