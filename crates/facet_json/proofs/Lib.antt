@@ -8,6 +8,7 @@ pub mod ItemsPassed
 pub mod LinePiecesRead
 pub mod LinesRead
 pub mod MemberCalls
+pub mod MembersInSight
 pub mod NamesCompared
 pub mod NestedTokens
 pub mod NestedValues

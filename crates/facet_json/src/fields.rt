@@ -1,8 +1,9 @@
 //! Fields of structs, in the order in which a table names them.
 
-ghost use Rattle.std.specs.Prelude.{◌≡◌, ◌<◌, false, cond, None, Some, IfOk, IfErr, OnOk};
+ghost use Rattle.std.specs.Prelude.{◌≡◌, ◌<◌, ◌∷◌, false, cond, List, None, Some, IfNone, IfOk, IfErr, OnOk};
 ghost use Rattle.std.specs.Option.{option_map, IfSome};
 ghost use Rattle.std.specs.Str.{bytes_eq};
+ghost use Rattle.facet_format.specs.Event.{ContainerKind, object};
 ghost use Rattle.facet_format.specs.Complaint.{missing_field, refusal_at};
 ghost use Rattle.facet_format.specs.Views.{refusal_of, span_of};
 ghost use Rattle.facet_json_grammar.specs.Now.{ahead};
@@ -10,17 +11,21 @@ ghost use Rattle.facet_json_grammar.specs.UnreadLaws.{RefusalWithin};
 ghost use Rattle.facet_json_core.specs.Meaning.Nodes.{KeepsOn};
 ghost use Rattle.facet_json_core.specs.Meaning.OneValue.{PassesValue, IsAfterKey};
 ghost use Rattle.facet_json_core.specs.Meaning.Reading.{IsRead, IsUnread};
+ghost use Rattle.facet_json_core.specs.Meaning.Scalars.{IsSeen};
 ghost use Rattle.facet_json_core.specs.Refusing.{TellsRefusal};
 ghost use Rattle.facet_json.specs.Fields.{field_step, keys, table, fields_of, begins_with, first_name, other_names, joined};
 ghost use Rattle.facet_json.specs.Fields.{LacksField};
+ghost use Rattle.facet_json.specs.Inner.MembersInSight.{PutsUpTo, PutsBefore};
 
 use facet_format::{DeserializeError, DeserializeErrorKind, Span};
 use facet_json_core::last_span;
 use facet_json_core::steps::{begin_object, next_name, pass_value};
 use facet_json_facet::{Facet, value_in};
-use facet_json_parser::JsonParser;
+use facet_json_parser::{JsonParser, front, stand};
+use facet_json_reader::scalar_at;
 use facet_json_token::cutting::common_len;
 use std::alloc::Global;
+use std::borrow::CowStr;
 
 /// A list of fields, as `Need(name, Need(age, Done))`, that `read_fields` reads. The input lives for `'de`.
 pub trait Fields<'de>: Sized + Drop {
@@ -83,6 +88,22 @@ pub trait Fields<'de>: Sized + Drop {
         ensures within { IfErr result (λ e. RefusalWithin parser.new.buffer (refusal_of e)) }
         ensures owned { borrows ≡ false → owned_slots slots.old → OnOk result (owned_slots slots.new) }
         ensures tells { IfErr result (λ e. TellsRefusal parser.old parser.new (refusal_of e)) };
+
+    /// Reads the scalar at this offset as the field of this key, or passes it, and says how many bytes it takes, where a few bytes decide
+    /// it, in a text without comments that is read leniently. Else nothing changes, and `put` reads it.
+    fn put_in_sight(
+        slots: &mut Self::Slots,
+        names: &[&str],
+        key: &str,
+        alloc: Global,
+        input: &'de [u8],
+        at: usize,
+        borrows: bool,
+    ) -> Option<usize>
+        ensures put { IfSome result
+            (λ len. IsSeen (step borrows (keys names.now) key.now (seen slots.old)) input.now at len (seen slots.new)) }
+        ensures same { IfNone result (seen slots.new ≡ seen slots.old) }
+        ensures owned { borrows ≡ false → owned_slots slots.old → owned_slots slots.new };
 
     /// The fields of an object that ends with this bracket.
     ///
@@ -149,6 +170,19 @@ impl<'de> Fields<'de> for Done {
         pass_value(parser)
     }
 
+    #[inline(always)]
+    fn put_in_sight(
+        _slots: &mut (),
+        _names: &[&str],
+        _key: &str,
+        _alloc: Global,
+        input: &'de [u8],
+        at: usize,
+        _borrows: bool,
+    ) -> Option<usize> {
+        scalar_at(input, at)
+    }
+
     fn finish<'t>(
         _slots: (),
         _names: &'t [&'t str],
@@ -196,6 +230,19 @@ impl<'de, T: Facet<'de>, R: Fields<'de>> Fields<'de> for Need<T, R> {
         borrows: bool,
     ) -> Result<(), DeserializeError<'t>> {
         put_first::<T, R>(slots, names, key, alloc, parser, borrows)
+    }
+
+    #[inline(always)]
+    fn put_in_sight(
+        slots: &mut (Option<T>, R::Slots),
+        names: &[&str],
+        key: &str,
+        alloc: Global,
+        input: &'de [u8],
+        at: usize,
+        borrows: bool,
+    ) -> Option<usize> {
+        put_first_in_sight::<T, R>(slots, names, key, alloc, input, at, borrows)
     }
 
     fn finish<'t>(
@@ -255,6 +302,19 @@ impl<'de, T: Facet<'de>, R: Fields<'de>> Fields<'de> for Maybe<T, R> {
         put_first::<Option<T>, R>(slots, names, key, alloc, parser, borrows)
     }
 
+    #[inline(always)]
+    fn put_in_sight(
+        slots: &mut (Option<Option<T>>, R::Slots),
+        names: &[&str],
+        key: &str,
+        alloc: Global,
+        input: &'de [u8],
+        at: usize,
+        borrows: bool,
+    ) -> Option<usize> {
+        put_first_in_sight::<Option<T>, R>(slots, names, key, alloc, input, at, borrows)
+    }
+
     fn finish<'t>(
         slots: (Option<Option<T>>, R::Slots),
         names: &'t [&'t str],
@@ -306,6 +366,127 @@ fn put_first<'t, 'de, T: Facet<'de>, R: Fields<'de>>(
     )
 }
 
+/// Reads the scalar at this offset as the first field where the key is that field's name, and else as one of those after it.
+#[inline(always)]
+fn put_first_in_sight<'de, T: Facet<'de>, R: Fields<'de>>(
+    slots: &mut (Option<T>, R::Slots),
+    names: &[&str],
+    key: &str,
+    alloc: Global,
+    input: &'de [u8],
+    at: usize,
+    borrows: bool,
+) -> Option<usize>
+    ensures put { IfSome result (λ len. IsSeen
+        (field_step (cond borrows T.shape.reading_borrowed T.shape.reading) (R.step borrows) (keys names.now) key.now
+        (option_map T.view slots.old.0, R.seen slots.old.1))
+        input.now at len (option_map T.view slots.new.0, R.seen slots.new.1)) }
+    ensures same { IfNone result
+        ((option_map T.view slots.new.0 ≡ option_map T.view slots.old.0) × (R.seen slots.new.1 ≡ R.seen slots.old.1)) }
+    ensures owned { borrows ≡ false → IfSome slots.old.0 T.owned × R.owned_slots slots.old.1
+        → IfSome slots.new.0 T.owned × R.owned_slots slots.new.1 }
+{
+    if is_first(names, key) {
+        let (value, len) = T::in_sight(alloc, input, at, borrows)?;
+        slots.0 = Some(value);
+        return Some(len);
+    }
+    R::put_in_sight(
+        &mut slots.1,
+        after_first(names),
+        key,
+        alloc,
+        input,
+        at,
+        borrows,
+    )
+}
+
+/// Reads members whose values are scalars, as long as a few bytes decide each of them. The parser is then behind the key that is returned,
+/// whose value they don't decide, or before what is no key in sight.
+#[inline(always)]
+fn members_in_sight<'de, F: Fields<'de>>(
+    slots: &mut F::Slots,
+    names: &[&str],
+    alloc: Global,
+    parser: &mut JsonParser<'de>,
+    borrows: bool,
+) -> Option<&'de str>
+    ensures put { (others : List ContainerKind) → parser.old.cursor.spot.place.stack ≡ object ∷ others
+        → PutsUpTo (F.step borrows (keys names.now)) parser.old (F.seen slots.old) (option_map (λ name. name.now) result) parser.new (F.seen slots.new) }
+    ensures owned { borrows ≡ false → F.owned_slots slots.old → F.owned_slots slots.new }
+{
+    let (input, from) = front(parser)?;
+    let mut at = from;
+    while let Some((key, value)) = at.key(input) {
+        let Some(len) = F::put_in_sight(
+            slots,
+            names,
+            key,
+            alloc,
+            input,
+            value.at,
+            borrows,
+        ) else {
+            stand(parser, value);
+            return Some(key);
+        };
+        at = value.behind_member(input, len);
+    }
+    stand(parser, at);
+    None
+}
+
+/// Reads members in sight, and returns the key of the next one, whose value is not read. It is none at the object's end, which is consumed.
+///
+/// # Errors
+///
+/// As `next_name`.
+#[inline(always)]
+fn next_unread<'t, 'de, F: Fields<'de>>(
+    slots: &mut F::Slots,
+    names: &[&str],
+    alloc: Global,
+    parser: &mut JsonParser<'de>,
+    borrows: bool,
+) -> Result<Option<CowStr<'de>>, DeserializeError<'t>>
+    ensures put { (others : List ContainerKind) → parser.old.cursor.spot.place.stack ≡ object ∷ others
+        → PutsBefore (F.step borrows (keys names.now)) parser.old (F.seen slots.old) result parser.new (F.seen slots.new) }
+    ensures owned { borrows ≡ false → F.owned_slots slots.old → F.owned_slots slots.new }
+    ensures within { IfErr result (λ e. RefusalWithin parser.new.buffer (refusal_of e)) }
+{
+    match members_in_sight::<F>(slots, names, alloc, parser, borrows) {
+        Some(key) => Ok(Some(CowStr::Borrowed(key))),
+        None => next_name(parser),
+    }
+}
+
+/// Reads the parser's next value, that of a member, by a call, so that what reads members in sight is compiled with none of this in it.
+///
+/// # Errors
+///
+/// As `Fields::put`.
+#[inline(never)]
+fn put_apart<'t, 'de, F: Fields<'de>>(
+    slots: &mut F::Slots,
+    names: &[&str],
+    key: &str,
+    alloc: Global,
+    parser: &mut JsonParser<'de>,
+    borrows: bool,
+) -> Result<(), DeserializeError<'t>>
+    ensures read { OnOk result
+        (IsRead (F.step borrows (keys names.now) key.now (F.seen slots.old)) parser.old (F.seen slots.new) parser.new) }
+    ensures unread { IfErr result (λ e. IsUnread (F.step borrows (keys names.now) key.now (F.seen slots.old)) parser.old (refusal_of e)) }
+    ensures keeps { KeepsOn parser.old parser.new }
+    ensures one_value { IsAfterKey parser.old → OnOk result (PassesValue parser.old parser.new) }
+    ensures within { IfErr result (λ e. RefusalWithin parser.new.buffer (refusal_of e)) }
+    ensures owned { borrows ≡ false → F.owned_slots slots.old → OnOk result (F.owned_slots slots.new) }
+    ensures tells { IfErr result (λ e. TellsRefusal parser.old parser.new (refusal_of e)) }
+{
+    F::put(slots, names, key, alloc, parser, borrows)
+}
+
 /// Reads an object as fields of these names (RFC 8259, section 4). The last member of a repeated key counts, and a member that no
 /// name fits is skipped undecoded. What is read may borrow of the input where `borrows` says so.
 ///
@@ -345,8 +526,8 @@ pub fn read_fields<'de, 't, F: Fields<'de>>(
 {
     begin_object(parser)?;
     let mut slots = F::none();
-    while let Some(key) = next_name(parser)? {
-        F::put(&mut slots, names, key.as_str(), alloc, parser, borrows)?;
+    while let Some(key) = next_unread::<F>(&mut slots, names, alloc, parser, borrows)? {
+        put_apart::<F>(&mut slots, names, key.as_str(), alloc, parser, borrows)?;
     }
     F::finish(slots, names, last_span(parser))
 }

@@ -40,8 +40,14 @@ impl<'de, T: Facet<'de>> Facet<'de> for Named<T> {
         Ok(Named(T::read(alloc, parser)?))
     }
 
-    fn in_sight(_: Global, _: &'de [u8], _: usize, _: bool) -> Option<(Self, usize)> {
-        None
+    fn in_sight(
+        alloc: Global,
+        input: &'de [u8],
+        at: usize,
+        borrows: bool,
+    ) -> Option<(Named<T>, usize)> {
+        let (value, len) = T::in_sight(alloc, input, at, borrows)?;
+        Some((Named(value), len))
     }
 
     fn write(&self, serializer: &mut JsonSerializer<'_>) -> Result<(), JsonSerializeError> {
