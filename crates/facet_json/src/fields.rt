@@ -419,15 +419,7 @@ fn members_in_sight<'de, F: Fields<'de>>(
     let (input, from) = front(parser)?;
     let mut at = from;
     while let Some((key, value)) = at.key(input) {
-        let Some(len) = F::put_in_sight(
-            slots,
-            names,
-            key,
-            alloc,
-            input,
-            value.at,
-            borrows,
-        ) else {
+        let Some(len) = F::put_in_sight(slots, names, key, alloc, input, value.at, borrows) else {
             stand(parser, value);
             return Some(key);
         };

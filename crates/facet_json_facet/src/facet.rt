@@ -89,12 +89,7 @@ pub trait Facet<'de>: Sized + Drop {
     /// The value of the scalar at this offset of an input without comments that is read leniently, and how many bytes it takes, where a few
     /// bytes decide it. It may borrow of the input where `borrows` says so. Where there is no answer, `read` or `read_owned` reads the value, and
     /// says what is wrong: so a type may always answer `None`, and is read faster as a field or an item where it does not.
-    fn in_sight(
-        alloc: Global,
-        input: &'de [u8],
-        at: usize,
-        borrows: bool,
-    ) -> Option<(Self, usize)>
+    fn in_sight(alloc: Global, input: &'de [u8], at: usize, borrows: bool) -> Option<(Self, usize)>
         ensures seen { IfSome result (λ r. IsSeen (cond borrows shape.reading_borrowed shape.reading) input.now at r.1 (view r.0)) }
         ensures owned { borrows ≡ false → IfSome result (λ r. owned r.0) };
 

@@ -127,12 +127,7 @@ impl<'de, T: FromScalar> Facet<'de> for T {
     }
 
     #[inline(always)]
-    fn in_sight(
-        alloc: Global,
-        input: &'de [u8],
-        at: usize,
-        _borrows: bool,
-    ) -> Option<(T, usize)> {
+    fn in_sight(alloc: Global, input: &'de [u8], at: usize, _borrows: bool) -> Option<(T, usize)> {
         T::scalar_in_sight(alloc, input, at)
     }
 

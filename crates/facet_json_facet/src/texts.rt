@@ -123,11 +123,7 @@ impl<'de> Facet<'de> for &'de str {
         at: usize,
         borrows: bool,
     ) -> Option<(&'de str, usize)> {
-        if borrows {
-            text_at(input, at)
-        } else {
-            None
-        }
+        if borrows { text_at(input, at) } else { None }
     }
 
     fn write(&self, serializer: &mut JsonSerializer<'_>) -> Result<(), JsonSerializeError> {

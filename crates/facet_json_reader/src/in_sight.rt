@@ -363,7 +363,13 @@ fn pass_scalar<'de, L: InLanguage, T: Takes<'de>>(
 
 /// Behind a value's last token, which takes so many bytes at `at`: at this place, or where a comma follows, behind it at the next one.
 #[inline(always)]
-pub(crate) fn behind<L: InLanguage>(input: &[u8], at: usize, len: usize, place: Place, next: Place) -> Front
+pub(crate) fn behind<L: InLanguage>(
+    input: &[u8],
+    at: usize,
+    len: usize,
+    place: Place,
+    next: Place,
+) -> Front
     requires within { at + len ≤ length input.now }
     requires comma { place_turn (place_of place) comma ≡ passes (place_of next) }
     ensures front { (stack : List SpecContainer) → IsFront input.now L.language stack result }

@@ -88,13 +88,7 @@ impl Front {
             → IsValueThere (lenient plain) input.now self.at len value
             → PassesScalarAt input.now (lenient plain) stack self len value result }
     {
-        behind::<InPlain>(
-            input,
-            self.at,
-            len,
-            Place::AfterMember,
-            Place::BeforeKey,
-        )
+        behind::<InPlain>(input, self.at, len, Place::AfterMember, Place::BeforeKey)
     }
 
     /// Whether an item may come.
