@@ -3,7 +3,7 @@ use Rattle.std.proofs.Common.{◌≡◌, ℕ, ◌+◌, ◌-◌, ◌≤◌, ◌<�
 use Rattle.std.specs.Prelude.{IfNone}
 use Rattle.std.proofs.lemmas.List.{length-drop}
 use Rattle.facet_format.specs.Bytes.{colon as colon_byte}
-use Rattle.facet_format.specs.Event.{ContainerKind, Event, EventKind, Scalar, borrowed, field_key}
+use Rattle.facet_format.specs.Event.{ContainerKind, Event, EventKind, Scalar, borrowed, field_key, scalar}
 use Rattle.facet_format.specs.Span.{Span, span_at}
 use Rattle.facet_format.specs.Views.{span_of, container_of}
 use Rattle.facet_format.specs.declared.event.ContainerKind.{ContainerKind as RustContainerKind}
@@ -112,6 +112,20 @@ module _ {T : Type 0} (takes : Option Event → T → T → Type 0) (buffer : Li
         PassesOver takes buffer language stack from x stack to y
     key-over finish mark name key allowed reached text some room gap here last stage front taken =
         over-at _ (key-at buffer language stack from to finish mark name key allowed reached text some room gap here last stage front) taken
+
+    -- A value of one token is consumed, which may be the root.
+    pub value-over : (len : ℕ) → TakesScalar takes buffer language from.at len x y → MayBeValue (place_of from.place) →
+        IsFront buffer language stack from → span_of to.last ≡ span_at from.at len → stage_of to.stage ≡ after_value stack →
+        ((to.stage ≡ stages.Over → ⊥) → IsFront buffer language stack to) → PassesBracket takes buffer language stack from x stack to y
+    value-over len takes_one may reached last stage front =
+        let is = takes_one.is in
+        record {
+          event = record { kind = scalar is.value; span = span_at from.at len };
+          one = scalar-passes buffer language (reader_at stack from) (place_of from.place) from.at len is.value (span_at from.at len) (reader_at stack to)
+              may reached refl is.there is.allowed (record { new = left stack to (span_at from.at len) (after_value stack) last stage });
+          taken = takes_one.taken;
+          front = front;
+        }
 
     -- A bracket is consumed, which leaves these containers open.
     bracket-over : (kind : Kind) (way : EventKind) (after : List ContainerKind) → IsFront buffer language stack from →

@@ -6,6 +6,7 @@ pub mod CutsAtPlaces
 pub mod DigitSlices
 pub mod DigitWords
 pub mod EightDigits
+pub mod EscapedTexts
 pub mod EventsAtTurns
 pub mod FirstBytesOfEvents
 pub mod Fronts

@@ -33,6 +33,12 @@ pub record IsClosedAt (least : ℕ) (buffer : List ℕ) (at finish : ℕ) : Type
   pub ordered : at < finish
   pub within : finish < length buffer
 
+-- The string whose quote stands at this offset is closed by the quote at that one, and an escape stands between them.
+pub record IsEscapedAt (buffer : List ℕ) (at finish : ℕ) : Type 0 where
+  pub cut : (mode : Mode) → cut_here mode at (drop at buffer) ≡ token_at (string (at + 1) finish true) at ((finish + 1) - at)
+  pub ordered : at < finish
+  pub within : finish < length buffer
+
 -- At this offset stands a scalar's token of this length, which is read as this value.
 pub record IsScalarThere (buffer : List ℕ) (at len : ℕ) (value : Scalar) : Type 0 where
   pub kind : Kind

@@ -1,5 +1,5 @@
-//! Events consumed one after another, as long as a few bytes decide each of them and it is taken. No event is made of them, where the
-//! reader is stands in locals meanwhile, and the language and what takes them are known where this is compiled.
+//! Events consumed one after another, as long as a few bytes decide each of them or it is a text with an escape, and it is taken. No event
+//! is made of them, where the reader is stands in locals meanwhile, and the language and what takes them are known where this is compiled.
 
 ghost use Rattle.std.specs.Prelude.{◌≡◌, ◌≤◌, ◌<◌, ◌+◌, ◌∷◌, ℕ, true, false, List, Some, length, slice_get, slice_range, IfNone, IfSome};
 ghost use Rattle.facet_format.specs.Bytes.{quote};
@@ -28,7 +28,7 @@ use crate::reader::{Contexts, Reader, Stage};
 use crate::single::word_at;
 use crate::step::closing_sort;
 use crate::takes::{Piece, Takes};
-use crate::text::text_end;
+use crate::text::{escaped_end, text_end};
 use facet_format::{ContainerKind, Span};
 use facet_json_token::Mode;
 use facet_json_token::quick::{empty_gap_end, gap_end};
@@ -93,8 +93,8 @@ pub struct Front {
 }
 
 impl Reader {
-    /// Consumes events as long as a few bytes decide each of them and it is taken. It allocates for open containers alone, and where there
-    /// is no memory for one, it goes no further.
+    /// Consumes events as long as a few bytes decide each of them or it is a text with an escape, and it is taken. It allocates for open
+    /// containers alone, and where there is no memory for one, it goes no further.
     pub fn pass_in_sight<'de, T: Takes<'de>>(
         &mut self,
         input: &'de [u8],
@@ -480,7 +480,8 @@ fn take_piece<'de, T: Takes<'de>>(
     }
 }
 
-/// Consumes a bracket, where it is taken and there is memory for a container that it opens, and the comma behind one that it closes.
+/// Consumes a bracket, where it is taken and there is memory for a container that it opens, and the comma behind one that it closes; or a
+/// text with an escape, as in `pass_escaped`.
 #[inline(always)]
 fn pass_bracket<'de, L: InLanguage, T: Takes<'de>>(
     input: &'de [u8],
@@ -499,7 +500,50 @@ fn pass_bracket<'de, L: InLanguage, T: Takes<'de>>(
         b'[' => pass_start::<L, T>(input, takes, contexts, from, ContainerKind::Array),
         b'}' => pass_end::<L, T>(input, takes, contexts, from, ContainerKind::Object),
         b']' => pass_end::<L, T>(input, takes, contexts, from, ContainerKind::Array),
+        b'"' => pass_escaped::<L, T>(input, takes, contexts, from),
         _ => None,
+    }
+}
+
+/// Consumes a text with an escape, where it is taken, and the comma behind it.
+#[inline(always)]
+fn pass_escaped<'de, L: InLanguage, T: Takes<'de>>(
+    input: &'de [u8],
+    takes: &mut T,
+    contexts: &Contexts,
+    from: Front,
+) -> Option<Front>
+    requires { slice_get input.now from.at ≡ Some quote }
+    ensures left { IfNone result (Stays (T.takes input.now) takes.old takes.new) }
+    ensures over { IfSome result (λ f. IsFront input.now L.language contexts.now from
+        → PassesBracket (T.takes input.now) input.now L.language contexts.now from takes.old contexts.now f takes.new) }
+    ensures onward { IfSome result (λ f. (from.at < f.at) × (from.at < length input.now)) }
+{
+    if !from.place.takes_value() {
+        return None;
+    }
+    let len = take_escaped::<L, T>(input, takes, from.at)?;
+    Some(behind_value::<L>(input, contexts, from.at, len))
+}
+
+/// Takes the text whose quote is at `at`, where an escape stands in it, and returns its length. It is a call, which nothing but two numbers
+/// passes through, so that the events of other bytes stay in locals.
+#[inline(never)]
+fn take_escaped<'de, L: InLanguage, T: Takes<'de>>(
+    input: &'de [u8],
+    takes: &mut T,
+    at: usize,
+) -> Option<usize>
+    requires { slice_get input.now at ≡ Some quote }
+    ensures scalar { IfSome result (λ len. TakesScalar (T.takes input.now) input.now L.language at len takes.old takes.new) }
+    ensures left { IfNone result (Stays (T.takes input.now) takes.old takes.new) }
+{
+    let end = escaped_end(input, L::language(), at)?;
+    let len = end + 1 - at;
+    if takes.take_escaped(input, Span::new(at, len)) {
+        Some(len)
+    } else {
+        None
     }
 }
 
@@ -584,38 +628,38 @@ fn pass_end<'de, L: InLanguage, T: Takes<'de>>(
     };
     take_piece(input, takes, Piece::End(kind), from.at, 1)?;
     contexts.pop();
-    Some(behind_end::<L>(input, contexts, from.at))
+    Some(behind_value::<L>(input, contexts, from.at, 1))
 }
 
-/// Behind the bracket at `at`, which has closed the container within these.
+/// Behind a value within these containers, whose last token takes so many bytes at `at`.
 #[inline(always)]
-fn behind_end<L: InLanguage>(input: &[u8], contexts: &Contexts, at: usize) -> Front
-    requires { at < length input.now }
+fn behind_value<L: InLanguage>(input: &[u8], contexts: &Contexts, at: usize, len: usize) -> Front
+    requires { at + len ≤ length input.now }
     ensures front { (result.stage ≡ Stage.Over → ⊥) → IsFront input.now L.language contexts.now result }
-    ensures last { span_of result.last ≡ span_at at 1 }
+    ensures last { span_of result.last ≡ span_at at len }
     ensures stage { stage_of result.stage ≡ after_value contexts.now }
-    ensures onward { at < result.at }
+    ensures onward { at + len ≤ result.at }
 {
     match contexts.innermost() {
         Some(ContainerKind::Object) => behind::<L>(
             input,
             at,
-            1,
+            len,
             Place::AfterMember,
             Place::BeforeKey,
         ),
         Some(ContainerKind::Array) => behind::<L>(
             input,
             at,
-            1,
+            len,
             Place::AfterItem,
             Place::BeforeItem,
         ),
         None => Front {
-            last: Span::new(at, 1),
+            last: Span::new(at, len),
             stage: Stage::Over,
             place: Place::AfterRoot,
-            at: at + 1,
+            at: at + len,
         },
     }
 }

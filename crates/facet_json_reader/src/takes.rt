@@ -4,9 +4,10 @@ ghost use Rattle.std.specs.Prelude.{◌≡◌, ◌≤◌, ℕ, List, Option, Som
 ghost use Rattle.facet_format.specs.Event.{Event, EventKind};
 ghost use Rattle.facet_format.specs.Span.{stop};
 ghost use Rattle.facet_format.specs.Views.{span_of};
-ghost use Rattle.facet_json_reader.specs.Pieces.{IsPiece};
+ghost use Rattle.facet_json_reader.specs.Pieces.{IsPiece, TakesText};
 
 use facet_format::{ContainerKind, Span};
+use facet_json_token::check_content;
 
 /// What an event in sight is of. Its bytes tell the rest.
 #[derive(Clone, Copy)]
@@ -40,6 +41,14 @@ pub trait Takes<'de>: Sized {
             → IsPiece (slice_range input.now span.offset (stop (span_of span))) piece kind
             → takes input.now (Some (record { kind = kind; span = span_of span })) self.old self.new }
         ensures left { result ≡ false → takes input.now None self.old self.new };
+
+    /// Takes the event of the text of the string that has these bytes, in which an escape stands, and says whether it did: only where there
+    /// is such a text. Where it did not, the event is not consumed, and none behind it.
+    fn take_escaped(&mut self, input: &'de [u8], span: Span) -> bool
+        requires within { stop (span_of span) ≤ length input.now }
+        requires quotes { 2 ≤ span.len }
+        ensures taken { result ≡ true → TakesText (takes input.now) input.now (span_of span) self.old self.new }
+        ensures left { result ≡ false → takes input.now None self.old self.new };
 }
 
 /// Nothing is kept of any event.
@@ -49,5 +58,10 @@ impl<'de> Takes<'de> for () {
     #[inline(always)]
     fn take(&mut self, _input: &'de [u8], _piece: Piece, _span: Span) -> bool {
         true
+    }
+
+    #[inline(always)]
+    fn take_escaped(&mut self, input: &'de [u8], span: Span) -> bool {
+        check_content(input, span.offset + 1, span.end() - 1).is_ok()
     }
 }

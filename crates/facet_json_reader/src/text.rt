@@ -1,16 +1,19 @@
-//! Texts without an escape, from their bytes: sixteen at once, then thirty-two at a time.
+//! Texts without an escape, from their bytes: sixteen at once, then thirty-two at a time; and where those with an escape end.
 
 ghost use Rattle.std.specs.Prelude.{◌≡◌, ◌<◌, ◌+◌, ℕ, Bool, List, not, length, Some, slice_get, slice_range, IfSome, IsUtf8, ◌≤◌, drop};
 ghost use Rattle.std.specs.Prelude.{map};
 ghost use Rattle.facet_format.specs.Bytes.{quote, space};
 ghost use Rattle.facet_json_reader.specs.PlaceViews.{language_of, least_of};
-ghost use Rattle.facet_json_reader.specs.Values.{AreUnescaped, IsClosedAt, IsPlainText};
+ghost use Rattle.facet_json_reader.specs.Values.{AreUnescaped, IsClosedAt, IsEscapedAt, IsPlainText};
+ghost use Rattle.facet_json_grammar.specs.StrictTokens.{Allows};
+ghost use Rattle.facet_json_token.specs.Token.{Token as SpecToken};
 ghost use Rattle.std.specs.List.{prefix_len};
 ghost use Rattle.std.specs.Simd.Lanes.{mask_l};
 ghost use Rattle.facet_json_reader.specs.Inner.Window.{is_stop_from, is_unescaped, is_mark, is_ordinary};
 
 use crate::place::Language;
-use facet_json_token::{Trust, plain_text_unchecked, quoted_text};
+use facet_json_token::cutting::cut_token;
+use facet_json_token::{Mode, Token, Trust, plain_text_unchecked, quoted_text};
 use std::simd::prelude::*;
 use std::str;
 
@@ -60,6 +63,29 @@ pub(crate) fn text_end(input: &[u8], language: Language, at: usize) -> Option<us
     match input.get(end) {
         Some(b'"') => Some(end),
         _ => other_text_end(input, at, end, least),
+    }
+}
+
+/// The offset of the quote that closes the string whose quote is at `at`, where an escape stands in it and the language is lenient.
+#[inline(always)]
+pub(crate) fn escaped_end(input: &[u8], language: Language, at: usize) -> Option<usize>
+    requires { slice_get input.now at ≡ Some quote }
+    ensures escaped { IfSome result (λ end. IsEscapedAt input.now at end) }
+    ensures allowed { IfSome result (λ _. (t : SpecToken) → Allows (language_of language) input.now t) }
+{
+    if let Language::Strict = language {
+        return None;
+    }
+    let Ok(token) = cut_token(input, at, b'"', Mode::Plain) else {
+        return None;
+    };
+    match token.token {
+        Token::String {
+            end,
+            has_escapes,
+            ..
+        } => { if has_escapes { Some(end) } else { None } }
+        _ => None,
     }
 }
 

@@ -36,6 +36,7 @@ use facet_format::{
 };
 use facet_json_parser::{JsonParser, pass_in_sight};
 use facet_json_reader::{Piece, Takes};
+use facet_json_token::decode_string_owned;
 use std::alloc::{AllocError, Global};
 use std::borrow::CowStr;
 
@@ -57,6 +58,7 @@ pub(crate) fn build<'i, 't>(
     ensures within { IfErr result (λ e. RefusalWithin parser.old.buffer (refusal_of e)) }
 {
     let mut built = Built {
+        alloc,
         input,
         held: Vec::new(alloc),
         nodes: Vec::new(alloc),
@@ -88,6 +90,17 @@ impl<'i> Takes<'i> for Built<'i> {
             Piece::Null => self.add_null(text).is_ok(),
             Piece::Start(kind) => self.begin(kind, span, text).is_ok(),
             Piece::End(kind) => self.end(kind, span.offset + span.len).is_ok(),
+        }
+    }
+
+    #[inline(always)]
+    fn take_escaped(&mut self, input: &'i [u8], span: Span) -> bool {
+        match decode_string_owned(self.alloc, input, span.offset + 1, span.end() - 1) {
+            Ok(text) => {
+                let text = ScalarValue::Str(CowStr::Owned(text));
+                self.add_leaf(text, span).is_ok()
+            }
+            Err(_) => false,
         }
     }
 }

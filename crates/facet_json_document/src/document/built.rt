@@ -5,6 +5,7 @@ ghost use Rattle.facet_json_document.specs.Inner.Held.{FindsHeld};
 
 use crate::document::node::Node;
 use facet_format::ScalarValue;
+use std::alloc::Global;
 
 /// A container that is not closed yet.
 #[derive(Clone, Copy)]
@@ -18,6 +19,8 @@ pub(crate) struct Opened {
 /// The nodes of the events so far.
 #[derive(Drop)]
 pub(crate) struct Built<'i> {
+    /// Where texts are allocated.
+    pub(crate) alloc: Global,
     /// The input.
     pub(crate) input: &'i [u8],
     /// The values that no node tells by its bytes.

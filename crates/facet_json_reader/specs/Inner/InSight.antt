@@ -65,7 +65,7 @@ pub record PassesOver {T : Type 0} (takes : Option Event → T → T → Type 0)
   pub taken : takes (Some event) x y
   pub front : IsFront buffer language after g
 
--- A bracket is consumed and taken. After the root's last one no token is looked for.
+-- A bracket, or a text with an escape, is consumed and taken. After the root's end no token is looked for.
 pub record PassesBracket {T : Type 0} (takes : Option Event → T → T → Type 0) (buffer : List ℕ) (language : Language) (before : List ContainerKind)
     (f : Front) (x : T) (after : List ContainerKind) (g : Front) (y : T) : Type 0 where
   pub event : Event

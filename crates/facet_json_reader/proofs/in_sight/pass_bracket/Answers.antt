@@ -31,3 +31,8 @@ pub pass_end-requires-in-93 : goal.pass_end-requires-in-93
 pass_end-requires-in-93 g c =
     let w = c.in_ok-get in
     λ k. ((refl, tt), slice_get-from_read c.args.input.now c.args.from.at w.field-0.now byte.right_bracket w.ensures.lookup.3 c.in-93.is)
+
+pub pass_escaped-requires : goal.pass_escaped-requires
+pass_escaped-requires g c =
+    let w = c.in_ok-get in
+    λ k. ((refl, tt), slice_get-from_read c.args.input.now c.args.from.at w.field-0.now byte.quote w.ensures.lookup.3 c.in-34.is)

@@ -14,20 +14,20 @@ pub take_piece-requires : goal.take_piece-requires
 take_piece-requires g c =
     λ k. ((refl, tt), (omega (arith, slice_get_within c.args.input.now c.args.from.at (closing_bracket c.args.kind) c.requires), (_, refl)))
 
-pub behind_end-requires : goal.behind_end-requires
-behind_end-requires g c = slice_get_within c.args.input.now c.args.from.at (closing_bracket c.args.kind) c.requires
+pub behind_value-requires : goal.behind_value-requires
+behind_value-requires g c = omega (arith, slice_get_within c.args.input.now c.args.from.at (closing_bracket c.args.kind) c.requires)
 
 pub returns-clause-over : goal.returns-clause-over
 returns-clause-over g c =
     λ reached.
     let a = c.args in
     let turns = closes-own a.from.place a.kind c.in-Closes.field-0 (c.in-Closes.ensures.turn ∙ ap (turn_by (place_of a.from.place)) c.closing_sort.ensures) in
-    let behind = c.behind_end.ensures in
-    end-over (g.T.Takes.takes a.input.now) a.input.now g.L.InLanguage.language a.contexts.now a.from c.behind_end.result _ _ a.kind c.pop.new.self turns reached
+    let behind = c.behind_value.ensures in
+    end-over (g.T.Takes.takes a.input.now) a.input.now g.L.InLanguage.language a.contexts.now a.from c.behind_value.result _ _ a.kind c.pop.new.self turns reached
     c.requires behind.last c.pop.ensures behind.stage behind.front (c.in_ok-take_piece.ensures.taken _ refl)
 
 pub returns-clause-onward : goal.returns-clause-onward
 returns-clause-onward g c = (
-  c.behind_end.ensures.onward,
+  omega (arith, c.behind_value.ensures.onward),
   slice_get_within c.args.input.now c.args.from.at (closing_bracket c.args.kind) c.requires,
 )
