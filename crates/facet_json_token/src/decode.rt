@@ -160,15 +160,17 @@ pub fn check_content(buf: &[u8], start: usize, end: usize) -> Result<(), Fault>
     ensures refused { IfErr result (λ e. IsFirstRefusal (slice_range buf.now start end) start (told_refusal e)) }
 {
     let mut at = start;
-    loop {
-        let stop = run_end(buf, at, end);
-        run_at(buf, at, stop)?;
-        if stop == end {
-            return Ok(());
+    while at < end {
+        if buf[at] == b'\\' {
+            let escape = escape_at(&buf[at..end], at)?;
+            at += escape.len;
+        } else {
+            let stop = run_end(buf, at, end);
+            run_at(buf, at, stop)?;
+            at = stop;
         }
-        let found = escape_at(&buf[stop..end], stop)?;
-        at = stop + found.len;
     }
+    Ok(())
 }
 
 /// Where the bytes from `at` on that are no backslash end.
