@@ -16,10 +16,7 @@ use Rattle.facet_json_grammar.specs.StrictTokens.{Allows}
 use Rattle.facet_json_grammar.specs.Tree as tree
 use Rattle.facet_json_reader.specs.Inner.InSight.{TakesScalar}
 use Rattle.facet_json_reader.specs.Pieces.{TakesText}
-use Rattle.facet_json_reader.specs.PlaceViews.{language_of}
 use Rattle.facet_json_reader.specs.Values.{IsEscapedAt}
-use Rattle.facet_json_reader.specs.declared.place.Language.{Language as RustLanguage}
-use Rattle.facet_json_reader.specs.declared.place.Language.TheVariants as languages
 use Rattle.facet_json_token.specs.declared.token.SpannedToken.{SpannedToken}
 use Rattle.facet_json_token.specs.declared.token.Token.TheVariants as code
 use Rattle.facet_json_token.specs.Views.{cut_of, token_answer}
@@ -73,15 +70,9 @@ escaped-cut buffer at start finish escaped t here cut is mark =
     let string_there : t.token ≡ code.String start finish true = is ∙ ap (code.String start finish) mark in
     escaped-there buffer at start finish (span_of t.span) here (ap (token_answer t.span) (sym string_there) ∙ cut)
 
--- A lenient language allows each token.
-pub lenient-allows : (buffer : List ℕ) (language : RustLanguage) (t : Token) → (language ≡ languages.Strict → ⊥) → Allows (language_of language) buffer t
-lenient-allows buffer languages.Plain t lenient = tt
-lenient-allows buffer languages.Jsonc t lenient = tt
-lenient-allows buffer languages.Strict t lenient = absurd (lenient refl)
-
 -- Where its text is taken, a scalar is.
 pub escaped-taken : {T : Type 0} (takes : Option Event → T → T → Type 0) (buffer : List ℕ) (language : Language) (at finish : ℕ) (span : Span) (x y : T) →
-    IsEscapedAt buffer at finish → ((t : Token) → Allows language buffer t) → span ≡ span_at at ((finish + 1) - at) → TakesText takes buffer span x y →
+    IsEscapedAt buffer at finish → ((s : Span) → Allows language buffer (record { kind = string (at + 1) finish true; span = s })) → span ≡ span_at at ((finish + 1) - at) → TakesText takes buffer span x y →
     TakesScalar takes buffer language at ((finish + 1) - at) x y
 escaped-taken takes buffer language at finish span x y is allowed whole taken =
     let one = subst (λ s. TakesText takes buffer s x y) whole taken in

@@ -191,6 +191,9 @@ fn pass_members<'de, L: InLanguage, T: Takes<'de>>(
         let Some(key) = pass_key::<L, T>(input, takes, front) else {
             return front;
         };
+        if begins_container(input, key.at) {
+            return key;
+        }
         let Some(next) = pass_scalar::<L, T>(
             input,
             takes,
@@ -216,7 +219,7 @@ fn pass_items<'de, L: InLanguage, T: Takes<'de>>(
     ensures onward { from.at ≤ result.at }
 {
     let mut front = from;
-    while is_item(front.place) {
+    while is_item(front.place) && !begins_container(input, front.at) {
         let Some(next) = pass_scalar::<L, T>(
             input,
             takes,
@@ -245,6 +248,15 @@ pub(crate) fn is_item(place: Place) -> bool
     ensures { result ≡ true → MayBeValue (place_of place) }
 {
     matches!(place, Place::BeforeItem | Place::NextItem)
+}
+
+/// Whether a bracket stands there that opens a container, so that no scalar is sought there.
+#[inline(always)]
+fn begins_container(input: &[u8], at: usize) -> bool {
+    match input.get(at) {
+        Some(b'[' | b'{') => true,
+        _ => false,
+    }
 }
 
 /// Whether this byte stands there.

@@ -1,19 +1,22 @@
 //! Texts without an escape, from their bytes: sixteen at once, then thirty-two at a time; and where those with an escape end.
 
-ghost use Rattle.std.specs.Prelude.{◌≡◌, ◌<◌, ◌+◌, ℕ, Bool, List, not, length, Some, slice_get, slice_range, IfSome, IsUtf8, ◌≤◌, drop};
+ghost use Rattle.std.specs.Prelude.{◌≡◌, ◌<◌, ◌+◌, ℕ, Bool, true, List, not, length, Some, slice_get, slice_range, IfSome, IsUtf8, ◌≤◌, drop};
 ghost use Rattle.std.specs.Prelude.{map};
 ghost use Rattle.facet_format.specs.Bytes.{quote, space};
 ghost use Rattle.facet_json_reader.specs.PlaceViews.{language_of, least_of};
 ghost use Rattle.facet_json_reader.specs.Values.{AreUnescaped, IsClosedAt, IsEscapedAt, IsPlainText};
 ghost use Rattle.facet_json_grammar.specs.StrictTokens.{Allows};
-ghost use Rattle.facet_json_token.specs.Token.{Token as SpecToken};
+ghost use Rattle.facet_json_token.specs.Token.{string};
+ghost use Rattle.facet_format.specs.Span.{Span as SpecSpan};
 ghost use Rattle.std.specs.List.{prefix_len};
 ghost use Rattle.std.specs.Simd.Lanes.{mask_l};
 ghost use Rattle.facet_json_reader.specs.Inner.Window.{is_stop_from, is_unescaped, is_mark, is_ordinary};
 
 use crate::place::Language;
 use facet_json_token::cutting::cut_token;
-use facet_json_token::{Mode, Token, Trust, plain_text_unchecked, quoted_text};
+use facet_json_token::{
+    Mode, Token, Trust, check_string_strict, plain_text_unchecked, quoted_text,
+};
 use std::simd::prelude::*;
 use std::str;
 
@@ -66,16 +69,28 @@ pub(crate) fn text_end(input: &[u8], language: Language, at: usize) -> Option<us
     }
 }
 
-/// The offset of the quote that closes the string whose quote is at `at`, where an escape stands in it and the language is lenient.
+/// The offset of the quote that closes the string whose quote is at `at`, where an escape stands in it and the language allows it.
 #[inline(always)]
 pub(crate) fn escaped_end(input: &[u8], language: Language, at: usize) -> Option<usize>
     requires { slice_get input.now at ≡ Some quote }
     ensures escaped { IfSome result (λ end. IsEscapedAt input.now at end) }
-    ensures allowed { IfSome result (λ _. (t : SpecToken) → Allows (language_of language) input.now t) }
+    ensures allowed { IfSome result (λ end. (s : SpecSpan)
+        → Allows (language_of language) input.now (record { kind = string (at + 1) end true; span = s })) }
 {
-    if let Language::Strict = language {
-        return None;
+    let end = closed_with_escapes(input, at)?;
+    if allows_content(input, language, at + 1, end) {
+        Some(end)
+    } else {
+        None
     }
+}
+
+/// The offset of the quote that closes the string whose quote is at `at`, where an escape stands in it.
+#[inline(always)]
+fn closed_with_escapes(input: &[u8], at: usize) -> Option<usize>
+    requires { slice_get input.now at ≡ Some quote }
+    ensures { IfSome result (λ end. IsEscapedAt input.now at end) }
+{
     let Ok(token) = cut_token(input, at, b'"', Mode::Plain) else {
         return None;
     };
@@ -86,6 +101,20 @@ pub(crate) fn escaped_end(input: &[u8], language: Language, at: usize) -> Option
             ..
         } => { if has_escapes { Some(end) } else { None } }
         _ => None,
+    }
+}
+
+/// Whether the language allows a string with the content that stands in `input[start..end]`.
+#[inline(always)]
+fn allows_content(input: &[u8], language: Language, start: usize, end: usize) -> bool
+    requires in_order { start ≤ end }
+    requires within { end ≤ length input.now }
+    ensures { result ≡ true → (escaped : Bool) (s : SpecSpan)
+        → Allows (language_of language) input.now (record { kind = string start end escaped; span = s }) }
+{
+    match language {
+        Language::Plain | Language::Jsonc => true,
+        Language::Strict => check_string_strict(input, start, end).is_ok(),
     }
 }
 

@@ -43,3 +43,10 @@ loop-takes-preserved g c =
           (scalar.over (object ∷ others) (rw place tt) refl named.front);
       onward = omega (arith, i.onward, key.onward.0, scalar.onward.0);
     }
+
+pub returns-then-begins_container-clause-far : goal.returns-then-begins_container-clause-far
+returns-then-begins_container-clause-far g c =
+    λ others reached.
+    let far = c.loop-takes.invariant.far others reached in
+    one-far (g.T.Takes.takes c.args.input.now) c.args.input.now g.L.InLanguage.language (object ∷ others) c.args.from c.loop-takes.front c.in-Some.key _ _ _ far
+    (c.in-Some.ensures.over (object ∷ others) (c.is_key.ensures c.loop-takes-test.true) far.front)
