@@ -1,10 +1,10 @@
 //! Nodes of events.
 
 ghost use Rattle.std.specs.Prelude.{◌≡◌, ◌<◌, ◌≤◌, ◌⊎◌, ℕ, List, Err, true, false, Ok, Option, None, Some, IfOk, IfErr, IfSome, OnOk, OnErr};
-ghost use Rattle.std.specs.Prelude.{MatchResult, ◌^◌, length, reverse, set, slice_get};
+ghost use Rattle.std.specs.Prelude.{MatchResult, ◌^◌, ◌-◌, length, reverse, set, slice_get};
 ghost use Rattle.facet_format.specs.Complaint.{no_memory};
 ghost use Rattle.facet_format.specs.Cursor.{event, next};
-ghost use Rattle.facet_format.specs.Span.{Span as SpecSpan, stop};
+ghost use Rattle.facet_format.specs.Span.{Span as SpecSpan, span_at, stop};
 ghost use Rattle.facet_format.specs.Views.{refusal_of, event_kind_of, scalar_value_of, span_of};
 ghost use Rattle.facet_json_document.specs.Inner.Held.{FindsHeld};
 ghost use Rattle.std.specs.Option.{unwrap_or};
@@ -374,8 +374,11 @@ impl<'i> Built<'i> {
         }
         match in_32_bits(len - opened.index) {
             Ok(inner) => {
-                let span = Span::new(opened.offset, end.saturating_sub(opened.offset));
-                let node = container_node(kind, inner, bytes_of_span(self.input, span));
+                let node = container_node(
+                    kind,
+                    inner,
+                    bytes_between(self.input, opened.offset, end),
+                );
                 put(&mut self.nodes, opened.index, node);
                 Ok(())
             }
@@ -545,6 +548,25 @@ fn container_node<'i>(kind: ContainerKind, inner: u32, text: &'i [u8]) -> Node<'
             text,
         },
     }
+}
+
+/// The bytes of the input from one offset up to another, as far as they lie there, which nearly all do.
+#[inline(always)]
+fn bytes_between(input: &[u8], from: usize, to: usize) -> &[u8]
+    ensures { result.now ≡ text_at input.now (span_at from (to - from)) }
+{
+    match input.get(from..to) {
+        Some(bytes) => bytes,
+        None => bytes_cut_off(input, from, to),
+    }
+}
+
+/// Those that lie there of such bytes, by a call.
+#[inline(never)]
+fn bytes_cut_off(input: &[u8], from: usize, to: usize) -> &[u8]
+    ensures { result.now ≡ text_at input.now (span_at from (to - from)) }
+{
+    bytes_of_span(input, Span::new(from, to.saturating_sub(from)))
 }
 
 /// The bytes of the input in a span, as far as it lies there.
