@@ -14,8 +14,7 @@ use Rattle.facet_json_token.proofs.FirstBytes.{cut_here-by}
 use Rattle.facet_json_grammar.specs.Language.{Language}
 use Rattle.facet_json_grammar.specs.StrictTokens.{Allows}
 use Rattle.facet_json_grammar.specs.Tree as tree
-use Rattle.facet_json_reader.specs.Inner.InSight.{TakesScalar}
-use Rattle.facet_json_reader.specs.Pieces.{TakesText}
+use Rattle.facet_json_reader.specs.Inner.InSight.{TakesScalar, TakesText}
 use Rattle.facet_json_reader.specs.Values.{IsEscapedAt}
 use Rattle.facet_json_token.specs.declared.token.SpannedToken.{SpannedToken}
 use Rattle.facet_json_token.specs.declared.token.Token.TheVariants as code

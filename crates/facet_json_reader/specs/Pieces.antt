@@ -1,12 +1,10 @@
 -- What the bytes of a token tell whoever takes its event.
-use Rattle.std.specs.Prelude.{◌≡◌, ◌≤◌, ◌+◌, ◌-◌, ℕ, false, List, Option, Some, IsUtf8, length, slice_range}
-use Rattle.facet_format.specs.Event.{Event, EventKind, Scalar, scalar, field_key, borrowed, owned}
+use Rattle.std.specs.Prelude.{◌≡◌, ◌≤◌, ◌-◌, ℕ, false, List, Some, IsUtf8, length, slice_range}
+use Rattle.facet_format.specs.Event.{EventKind, Scalar, scalar, field_key, borrowed}
 use Rattle.facet_format.specs.Event as event
 use Rattle.facet_format.specs.Number.{Hint}
 use Rattle.facet_format.specs.NumberValue.{Number, number}
-use Rattle.facet_format.specs.Span.{Span, stop}
 use Rattle.facet_json_token.specs.Cut.{has_backslash}
-use Rattle.facet_json_token.specs.Decoded.{decoded}
 use Rattle.facet_json_token.specs.Token as token
 use Rattle.facet_json_grammar.specs.Meaning.{tree_of_number}
 use Rattle.facet_json_grammar.specs.Walk.{scalar_by}
@@ -42,9 +40,3 @@ IsPiece bytes (pieces.Bool b) kind = kind ≡ scalar (event.bool b)
 IsPiece bytes pieces.Null kind = kind ≡ scalar event.null
 IsPiece bytes (pieces.Start container) kind = kind ≡ opening_event container
 IsPiece bytes (pieces.End container) kind = kind ≡ closing_event container
-
--- The text is taken that is made of the content of a string, which stands between its quotes.
-pub record TakesText {T : Type 0} (takes : Option Event → T → T → Type 0) (buffer : List ℕ) (span : Span) (x y : T) : Type 0 where
-  pub text : List ℕ
-  pub means : decoded (slice_range buffer (span.offset + 1) (stop span - 1)) ≡ Some text
-  pub taken : takes (Some (record { kind = scalar (event.text (owned text)); span = span })) x y

@@ -4,7 +4,8 @@ ghost use Rattle.std.specs.Prelude.{◌≡◌, ◌≤◌, ℕ, List, Option, Som
 ghost use Rattle.facet_format.specs.Event.{Event, EventKind};
 ghost use Rattle.facet_format.specs.Span.{stop};
 ghost use Rattle.facet_format.specs.Views.{span_of};
-ghost use Rattle.facet_json_reader.specs.Pieces.{IsPiece, TakesText};
+ghost use Rattle.facet_json_reader.specs.Pieces.{IsPiece};
+ghost use Rattle.facet_json_reader.specs.Inner.InSight.{TakesText};
 
 use facet_format::{ContainerKind, Span};
 use facet_json_token::check_content;

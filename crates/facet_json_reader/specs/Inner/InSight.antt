@@ -1,7 +1,9 @@
 -- Events that are consumed one after another, each of which is taken, and how far that is.
-use Rattle.std.specs.Prelude.{◌≡◌, ◌∷◌, ℕ, List, Option, Some, None}
-use Rattle.facet_format.specs.Event.{ContainerKind, Event, Scalar, borrowed, field_key, scalar}
-use Rattle.facet_format.specs.Span.{Span, span_at}
+use Rattle.std.specs.Prelude.{◌≡◌, ◌∷◌, ◌+◌, ◌-◌, ℕ, List, Option, Some, None, slice_range}
+use Rattle.facet_format.specs.Event.{ContainerKind, Event, Scalar, borrowed, owned, field_key, scalar}
+use Rattle.facet_format.specs.Event as event
+use Rattle.facet_format.specs.Span.{Span, span_at, stop}
+use Rattle.facet_json_token.specs.Decoded.{decoded}
 use Rattle.facet_json_token.specs.Gap.{plain}
 use Rattle.facet_json_grammar.specs.Language.{Language, lenient}
 use Rattle.facet_json_reader.specs.declared.in_sight.Front.{Front}
@@ -56,6 +58,12 @@ PassesScalarAt buffer language stack f len value g = PassesAt buffer language st
 pub record TakesScalar {T : Type 0} (takes : Option Event → T → T → Type 0) (buffer : List ℕ) (language : Language) (at len : ℕ) (x y : T) : Type 0 where
   pub is : IsAllowedThere language buffer at len
   pub taken : takes (Some (record { kind = scalar is.value; span = span_at at len })) x y
+
+-- The text is taken that is made of the content of a string, which stands between its quotes.
+pub record TakesText {T : Type 0} (takes : Option Event → T → T → Type 0) (buffer : List ℕ) (span : Span) (x y : T) : Type 0 where
+  pub text : List ℕ
+  pub means : decoded (slice_range buffer (span.offset + 1) (stop span - 1)) ≡ Some text
+  pub taken : takes (Some (record { kind = scalar (event.text (owned text)); span = span })) x y
 
 -- One event is consumed and taken, before it within these containers and after it within those.
 pub record PassesOver {T : Type 0} (takes : Option Event → T → T → Type 0) (buffer : List ℕ) (language : Language) (before : List ContainerKind)
