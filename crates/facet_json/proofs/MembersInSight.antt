@@ -42,14 +42,6 @@ module _ {V : Type 0} (t : Table V) (names : List (List ℕ)) (start : Now) wher
   members-onward old seen _ _ (one_put now new between more members one) =
       omega (arith, members-onward old seen now between members, one.key.shorter, one.onward.onward)
 
--- What `next_name` says, whatever it answers.
-pub names-next : {A : Type 0} (old new : Now) (r : Result (Option (CowStr A)) DeserializeError) →
-    IfOk r (λ name. PassesKey old (option_map (λ s. bytes_of (text_of s)) name) new) → IfOk r (λ name. PassesMemberOrEnd old name new) → GoesOn old new →
-    OnOk r (ahead new < ahead old) → OnOk r (new.cursor.refusal ≡ None) → IfErr r (λ e. LacksKey old (refusal_of e)) →
-    IfErr r (λ e. TellsRefusal old new (refusal_of e)) → NamesNext old r new
-names-next old new (Ok name) passes member onward shorter free lacks tells = (passes, member, onward, shorter, free)
-names-next old new (Err e) passes member onward shorter free lacks tells = (lacks, tells, onward)
-
 module _ {S : Type 0} (step : List ℕ → S → Reading S) (start : Now) (s : S) where
   -- Some members were read, and the parser is as far as this.
   pub record MembersFar (at : Front) (t : S) : Type 0 where
@@ -78,7 +70,7 @@ module _ {S : Type 0} (step : List ℕ → S → Reading S) (start : Now) (s : S
       let there = subst (λ b. PassesKeyIn b at name value) buffer passes now.cursor.spot.place.stack far.stands.front in
       let key = key-far now at value far.stands name there in
       record {
-        named = record { key = key.passes; inside = key.member; onward = key.onward; shorter = key.shorter; free = key.stands.free };
+        named = key.named;
         stands = key.stands;
       }
 

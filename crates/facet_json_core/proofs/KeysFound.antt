@@ -6,7 +6,6 @@ use Rattle.std.proofs.lemmas.Slice.Eq.{bytes_eq-Decides}
 use Rattle.facet_format.specs.Complaint.{Refusal}
 use Rattle.facet_format.specs.Cursor.{Cursor, Spot, at_spot, unpeeked}
 use Rattle.facet_format.specs.Event.{Event, Passed, object, struct_end}
-use Rattle.facet_format.specs.Kept.{found}
 use Rattle.facet_format.specs.Part.{Source}
 use Rattle.facet_json_token.specs.Token.{Token}
 use Rattle.facet_json_grammar.specs.Meaning.{pairs_of, text_in_tree, meaning}
@@ -17,7 +16,7 @@ use Rattle.facet_json_grammar.specs.Walk.{walk, walk_members, event_at, key_even
 use Rattle.facet_json_grammar.proofs.TreesOfParts.{member_meant}
 use Rattle.facet_json_core.specs.Meaning.Nodes.{StandsBefore, KeepsOn}
 use Rattle.facet_json_core.specs.Meaning.Objects.{PassesKey, LacksKey}
-use Rattle.facet_json_core.specs.Meaning.OneValue.{IsInside, PassesValue, PassesKeyInside}
+use Rattle.facet_json_core.specs.Meaning.OneValue.{PassesValue, PassesKeyInside}
 use Rattle.facet_json_core.specs.Meaning.Passing.{anything, WalksPast}
 use Rattle.facet_json_core.specs.Meaning.Reading.{IsRead, IsUnread}
 use Rattle.facet_json_core.proofs.Meaning.Keeping.{keeps-then}
@@ -25,7 +24,7 @@ use Rattle.facet_json_core.proofs.Meaning.Objects.MembersOnWalk.{AtMembers, at-k
 use Rattle.facet_json_core.proofs.Meaning.OneValue.WithinValues.{inside-value}
 use Rattle.facet_json_core.proofs.Meaning.WalkPlaces.{drop-node, drop-suc}
 use Rattle.facet_json_core.proofs.Meaning.Walks.NextOnWalk.{goes-keeps}
-use Rattle.facet_json_core.specs.Finding.{names_key, from_key, walk_from, StandsAmong, FindsKey, LacksMembers, PassesNextKey, PassesOthers, no_other, one_more}
+use Rattle.facet_json_core.specs.Finding.{names_key, from_key, walk_from, StandsAmong, FindsKey, LacksMembers, PassesNextKey, no_other, one_more, IsSearching}
 use Rattle.facet_json_core.proofs.TakenNext.{stays-put}
 
 -- ---- one member on a walk
@@ -96,24 +95,7 @@ first-passed now mid text w c members last others k s =
 -- ---- a search
 
 module _ (name : List ℕ) where
-  -- Of the members before which the parser stood these are left, and none of those that were passed has the key.
-  pub record IsLeft (now : Now) (w : Source) (c : Cursor ℕ) (members : Members) (last : Token) (others : List Passed) : Type 0 where
-    pub rest : Members
-    pub same : from_key name w.bytes members ≡ from_key name w.bytes rest
-    pub cursor : Cursor ℕ
-    pub among : StandsAmong now w cursor rest last others
-    pub counts : cursor.spot.place + length (walk_members w.bytes rest) ≡ c.spot.place + length (walk_members w.bytes members)
-    pub kept : (point : ℕ) (spot : Spot ℕ) → found point c.kept ≡ Some spot → found point cursor.kept ≡ Some spot
-
-  -- Members of other keys were passed.
-  pub record IsSearching (old now : Now) : Type 0 where
-    pub left : (w : Source) (c : Cursor ℕ) (members : Members) (last : Token) (others : List Passed) → StandsAmong old w c members last others →
-        IsLeft now w c members last others
-    pub passed : PassesOthers name old now
-    pub keeps : KeepsOn old now
-    pub inside : (start : Now) → IsInside object start old → IsInside object start now
-
-  pub search-begins : (old : Now) → IsSearching old old
+  pub search-begins : (old : Now) → IsSearching name old old
   search-begins old = record {
     left = λ w c members last others s. record { rest = members; same = refl; cursor = c; among = s; counts = refl; kept = λ point spot e. e };
     passed = no_other;
@@ -133,9 +115,9 @@ module _ (name : List ℕ) where
   other-text text other same = let is : bytes_eq text name ≡ true = (bytes_eq-Decides text name).1 same in cc
 
   -- A member of another key is passed.
-  pub other-passed : (old now mid new : Now) (text : List ℕ) → IsSearching old now → PassesKey now (Some text) mid → PassesNextKey now (Some text) mid →
+  pub other-passed : (old now mid new : Now) (text : List ℕ) → IsSearching name old now → PassesKey now (Some text) mid → PassesNextKey now (Some text) mid →
       bytes_eq text name ≡ false → PassesKeyInside now mid → GoesOn now mid → IsRead anything mid tt new → KeepsOn mid new → PassesValue mid new →
-      IsSearching old new
+      IsSearching name old new
   other-passed old now mid new text s k next other inside goes read keeps one = record {
     left = λ w c members last others before.
         let l = s.left w c members last others before in
@@ -166,7 +148,7 @@ module _ (name : List ℕ) where
   }
 
   -- The key is passed.
-  pub key-found : (old now mid : Now) (text : List ℕ) → IsSearching old now → PassesKey now (Some text) mid → bytes_eq text name ≡ true →
+  pub key-found : (old now mid : Now) (text : List ℕ) → IsSearching name old now → PassesKey now (Some text) mid → bytes_eq text name ≡ true →
       FindsKey name old true mid
   key-found old now mid text s k same w c members last others before =
       let l = s.left w c members last others before in
@@ -186,7 +168,7 @@ module _ (name : List ℕ) where
       }
 
   -- The object's end is passed.
-  pub none-found : (old now new : Now) → IsSearching old now → PassesKey now None new → FindsKey name old false new
+  pub none-found : (old now new : Now) → IsSearching name old now → PassesKey now None new → FindsKey name old false new
   unfolding walk_members
   none-found old now new s k w c members last others before =
       let l = s.left w c members last others before in
@@ -206,7 +188,7 @@ module _ (name : List ℕ) where
   -- ---- where it is refused
 
   -- No key was read.
-  pub no-key : (old now : Now) (r : Refusal) → IsSearching old now → LacksKey now r → LacksMembers old r
+  pub no-key : (old now : Now) (r : Refusal) → IsSearching name old now → LacksKey now r → LacksMembers old r
   unfolding at-members
   no-key old now r s k w c members last others before =
       let l = s.left w c members last others before in
@@ -214,7 +196,7 @@ module _ (name : List ℕ) where
       k.lacks w l.cursor first.first l.among.stands l.among.free first.at first.is
 
   -- A value was not passed.
-  pub no-value : (old now mid : Now) (text : List ℕ) (r : Refusal) → IsSearching old now → PassesKey now (Some text) mid → IsUnread anything mid r →
+  pub no-value : (old now mid : Now) (text : List ℕ) (r : Refusal) → IsSearching name old now → PassesKey now (Some text) mid → IsUnread anything mid r →
       LacksMembers old r
   no-value old now mid text r s k unread w c members last others before =
       let l = s.left w c members last others before in

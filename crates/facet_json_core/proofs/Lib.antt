@@ -7,6 +7,7 @@ pub mod Meaning
 pub mod Misplaced
 pub mod Names
 pub mod NextEventComes
+pub mod OthersInSight
 pub mod Passing
 pub mod PrefixBreaksOff
 pub mod Refusing

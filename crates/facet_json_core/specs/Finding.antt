@@ -3,7 +3,7 @@ use Rattle.std.specs.Prelude.{◌≡◌, ◌≢◌, ◌+◌, ℕ, Bool, false, i
 use Rattle.std.specs.Str.{bytes_eq}
 use Rattle.facet_format.specs.Complaint.{Refusal}
 use Rattle.facet_format.specs.Cursor.{Cursor, Spot, unpeeked}
-use Rattle.facet_format.specs.Event.{Event, Passed, struct_end}
+use Rattle.facet_format.specs.Event.{Event, Passed, object, struct_end}
 use Rattle.facet_format.specs.Kept.{found}
 use Rattle.facet_format.specs.Part.{Source}
 use Rattle.facet_json_token.specs.Token.{Token}
@@ -14,9 +14,9 @@ use Rattle.facet_json_grammar.specs.Now.{Now, StandsAt}
 use Rattle.facet_json_grammar.specs.Tree.{Pairs}
 use Rattle.facet_json_grammar.specs.Walk.{walk_members, event_at}
 use Rattle.facet_json_core.specs.Reading.{LacksMemory}
-use Rattle.facet_json_core.specs.Meaning.Nodes.{StandsBefore}
+use Rattle.facet_json_core.specs.Meaning.Nodes.{StandsBefore, KeepsOn}
 use Rattle.facet_json_core.specs.Meaning.Objects.{key_or_end}
-use Rattle.facet_json_core.specs.Meaning.OneValue.{PassesValue}
+use Rattle.facet_json_core.specs.Meaning.OneValue.{IsInside, PassesValue}
 
 -- ---- on a walk
 
@@ -95,3 +95,22 @@ pub record PassesUpTo (name : List ℕ) (old : Now) (key : Option (List ℕ)) (n
   pub now : Now
   pub others : PassesOthers name old now
   pub next : PassesNextKey now key new
+
+-- ---- a search
+
+-- Of the members before which the parser stood these are left, and none of those that were passed has the key.
+pub record IsLeft (name : List ℕ) (now : Now) (w : Source) (c : Cursor ℕ) (members : Members) (last : Token) (others : List Passed) : Type 0 where
+  pub rest : Members
+  pub same : from_key name w.bytes members ≡ from_key name w.bytes rest
+  pub cursor : Cursor ℕ
+  pub among : StandsAmong now w cursor rest last others
+  pub counts : cursor.spot.place + length (walk_members w.bytes rest) ≡ c.spot.place + length (walk_members w.bytes members)
+  pub kept : (point : ℕ) (spot : Spot ℕ) → found point c.kept ≡ Some spot → found point cursor.kept ≡ Some spot
+
+-- Members of other keys were passed.
+pub record IsSearching (name : List ℕ) (old now : Now) : Type 0 where
+  pub left : (w : Source) (c : Cursor ℕ) (members : Members) (last : Token) (others : List Passed) → StandsAmong old w c members last others →
+      IsLeft name now w c members last others
+  pub passed : PassesOthers name old now
+  pub keeps : KeepsOn old now
+  pub inside : (start : Now) → IsInside object start old → IsInside object start now

@@ -31,6 +31,7 @@ pub mod ErrorKind
 pub mod ErrorViews
 pub mod Finding
 pub mod Meaning
+pub mod Named
 pub mod Reading
 pub mod Refusing
 pub mod ScriptViews

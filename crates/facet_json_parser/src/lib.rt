@@ -12,5 +12,5 @@ mod points;
 mod quiet;
 mod run;
 
-pub use parser::{JsonParser, comes_other, front, next_wanted, pass_in_sight, stand};
+pub use parser::{JsonParser, comes_other, front, in_object, next_wanted, pass_in_sight, stand};
 pub use run::{pass_container, pass_run};

@@ -1,12 +1,13 @@
 //! Where a parser stands: after the last token that was passed, with an event that is read but not passed.
 
 ghost use Rattle.std.specs.Prelude.{◌≡◌, ◌≤◌, ℕ, true, false, List, None, length, IfOk, IfErr, OnOk, MatchOption, MatchResult, Ok, Err, Some};
-ghost use Rattle.std.specs.Prelude.{OnSome, IfSome, IsUtf8, is_some, ◌<◌};
+ghost use Rattle.std.specs.Prelude.{OnSome, IfSome, ◌∷◌, IsUtf8, is_some, ◌<◌};
 ghost use Rattle.std.specs.Option.{option_map};
 ghost use Rattle.std.specs.VecDeque.{deque_len, deque_capacity};
 ghost use Rattle.facet_json_parser.specs.Ready.{IsSound};
 ghost use Rattle.facet_json_parser.specs.Steps.{PassesOne, ShowsOne, QueuesOne, SkipsOne, CapturesOne};
 ghost use Rattle.facet_format.specs.Cursor.{current_span};
+ghost use Rattle.facet_format.specs.Event.{ContainerKind, object};
 ghost use Rattle.facet_format.specs.Span.{stop};
 ghost use Rattle.facet_format.specs.Views.{event_of, span_of};
 ghost use Rattle.facet_json_grammar.specs.Future.{finished};
@@ -121,6 +122,21 @@ impl<'de> Lookahead<'de> {
             return None;
         }
         W::pass(&mut self.reader, input, language, trust)
+    }
+
+    /// Whether the innermost open container is an object, where no event is held.
+    #[inline(always)]
+    pub fn in_object(&self) -> bool
+        ensures { result ≡ true
+            → (others : List ContainerKind) × ((reader_before (lookahead_of self.now)).stack ≡ object ∷ others) }
+    {
+        if self.held.is_some() {
+            return false;
+        }
+        matches!(
+            self.reader.contexts.innermost(),
+            Some(facet_format::ContainerKind::Object)
+        )
     }
 
     /// How far the reader is, where no event is held, in `Language::Plain`.

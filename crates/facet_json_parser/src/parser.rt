@@ -1,12 +1,13 @@
 //! Reads a document event by event, with a look ahead and points to go back to.
 
-ghost use Rattle.std.specs.Prelude.{◌≡◌, ◌≤◌, ◌+◌, suc, true, false, List, Some, None, Ok, Err, ◌<◌, length, ◌++◌, OnSome, IfOk, IfErr, IfSome};
+ghost use Rattle.std.specs.Prelude.{◌≡◌, ◌≤◌, ◌+◌, suc, true, false, List, Some, None, Ok, Err, ◌<◌, length, ◌∷◌, ◌++◌, OnSome, IfOk, IfErr, IfSome};
 ghost use Rattle.std.specs.Prelude.{IfNone, IsSome, IsUtf8, map, codes, MatchOption, MatchResult};
 ghost use Rattle.std.specs.Option.{option_map};
 ghost use Rattle.std.specs.VecDeque.{deque_len, deque_capacity};
 ghost use Rattle.facet_format.specs.declared.event.ParseEvent.{ParseEvent as RustEvent};
 ghost use Rattle.facet_format.specs.Cursor.{event, next, peek, events, skip, capture, save, restore, restored, span, spans, refused_at};
 ghost use Rattle.facet_format.specs.Kept.{found, without};
+ghost use Rattle.facet_format.specs.Event.{ContainerKind, object};
 ghost use Rattle.facet_format.specs.Span.{stop};
 ghost use Rattle.facet_format.specs.Steps.{IsStep};
 ghost use Rattle.facet_format.specs.Views.{event_of, span_of, parse_refusal, answer_of_event, answer_of_events, answer_of_skip};
@@ -248,6 +249,14 @@ impl<'de> JsonParser<'de> {
             .pass_in_sight(self.input, self.language, takes);
     }
 
+    /// Whether the innermost open container is an object. Where an event is held, the answer is no.
+    #[inline(always)]
+    fn stands_in_object(&self) -> bool
+        ensures { result ≡ true → (others : List ContainerKind) × (self.now.cursor.spot.place.stack ≡ object ∷ others) }
+    {
+        self.lookahead.in_object()
+    }
+
     /// The input, and how far it is, where no event is held, in `Language::Plain`.
     #[inline(always)]
     fn front_there(&self) -> Option<(&'de [u8], Front)>
@@ -365,6 +374,14 @@ pub fn pass_in_sight<'de, T: Takes<'de>>(parser: &mut JsonParser<'de>, takes: &m
     ensures { PassesMore (T.takes parser.old.buffer) parser.old takes.old parser.new takes.new }
 {
     parser.pass_events(takes);
+}
+
+/// Whether the innermost open container is an object.
+#[inline(always)]
+pub fn in_object(parser: &JsonParser<'_>) -> bool
+    ensures { result ≡ true → (others : List ContainerKind) × (parser.now.cursor.spot.place.stack ≡ object ∷ others) }
+{
+    parser.stands_in_object()
 }
 
 /// The input, and how far the parser is in it, for who takes keys and scalars in sight: where no event is held and no refusal sticks, in

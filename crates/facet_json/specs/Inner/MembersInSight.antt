@@ -1,25 +1,12 @@
 -- Members of an object that are read one after another, up to one that is not.
-use Rattle.std.specs.Prelude.{◌≡◌, ◌<◌, ℕ, List, Option, Some, None, Result, Ok, Err}
+use Rattle.std.specs.Prelude.{ℕ, List, Option, Some, None, Result}
 use Rattle.std.specs.declared.borrow.CowStr.{CowStr}
-use Rattle.std.specs.Option.{option_map}
 use Rattle.facet_format.specs.declared.error.DeserializeError.{DeserializeError}
-use Rattle.facet_format.specs.Event.{bytes_of}
-use Rattle.facet_format.specs.HeldText.{text_of}
-use Rattle.facet_format.specs.Views.{refusal_of}
-use Rattle.facet_json_grammar.specs.Now.{Now, ahead, GoesOn}
-use Rattle.facet_json_core.specs.Meaning.Objects.{PassesKey, LacksKey}
-use Rattle.facet_json_core.specs.Meaning.OneValue.{PassesKeyInside, PassesMemberOrEnd, PassesValue}
+use Rattle.facet_json_grammar.specs.Now.{Now, GoesOn}
+use Rattle.facet_json_core.specs.Meaning.OneValue.{PassesValue}
 use Rattle.facet_json_core.specs.Meaning.Reading.{IsRead}
-use Rattle.facet_json_core.specs.Refusing.{TellsRefusal}
+use Rattle.facet_json_core.specs.Named.{PassesNamed, NamesNext}
 use Rattle.facet_json.specs.Fields.{Reading}
-
--- The key of this name came next, and is passed.
-pub record PassesNamed (old : Now) (name : List ℕ) (new : Now) : Type 0 where
-  pub key : PassesKey old (Some name) new
-  pub inside : PassesKeyInside old new
-  pub onward : GoesOn old new
-  pub shorter : ahead new < ahead old
-  pub free : new.cursor.refusal ≡ None
 
 -- A member came next, and its value was read.
 pub record PutsMember {S : Type 0} (step : List ℕ → S → Reading S) (old : Now) (s : S) (new : Now) (t : S) : Type 0 where
@@ -40,13 +27,6 @@ abbrev pub PutsUpTo : {S : Type 0} → (List ℕ → S → Reading S) → Now �
 PutsUpTo step old s None new t = PutsMembers step old s new t
 PutsUpTo step old s (Some name) new t = (now : Now) × PutsMembers step old s now t × PassesNamed now name new
 
--- A key came next and is passed, or the end of the object; or it is refused.
-abbrev pub NamesNext : {A : Type 0} → Now → Result (Option (CowStr A)) DeserializeError → Now → Type 0
-NamesNext old (Ok key) new =
-    PassesKey old (option_map (λ s. bytes_of (text_of s)) key) new × PassesMemberOrEnd old key new × GoesOn old new × (ahead new < ahead old)
-    × (new.cursor.refusal ≡ None)
-NamesNext old (Err e) new = LacksKey old (refusal_of e) × TellsRefusal old new (refusal_of e) × GoesOn old new
-
--- So it was after some members whose values were read.
+-- A key came next and is passed, or the end of the object, or it is refused, after some members whose values were read.
 abbrev pub PutsBefore : {A S : Type 0} → (List ℕ → S → Reading S) → Now → S → Result (Option (CowStr A)) DeserializeError → Now → S → Type 0
 PutsBefore step old s result new t = (now : Now) × PutsMembers step old s now t × NamesNext now result new

@@ -1,4 +1,4 @@
-use Rattle.std.proofs.Common.{sym, ◌∙◌}
+use Rattle.std.proofs.Common.{sym, arith, ◌∙◌}
 use Rattle.std.proofs.lemmas.Option.{MatchOption-at_some}
 use Rattle.std.proofs.lemmas.Result.{err_from_is_err_and}
 use Rattle.facet_format.specs.Event.{bytes_of}
@@ -15,40 +15,53 @@ loop-key-init c = search-begins _ _
 pub returns-in_err-key-clause-lacks : goal.returns-in_err-key-clause-lacks
 returns-in_err-key-clause-lacks c =
     let p = err_from_is_err_and c.from_residual.result c.from_residual.ensures.1 in
-    rw (p.1, p.2) (no-key c.args.name.now _ _ (refusal_of c.in_err-key.field-0.0) c.loop-key.invariant c.in_err-key.ensures.lacks)
+    let next = c.in_err-key.ensures.passed in
+    rw (p.1, p.2) (no-key c.args.name.now _ _ (refusal_of c.in_err-key.field-0.0) (next.1 _ c.loop-key.invariant) next.2.lacks)
 
 pub returns-in_err-key-clause-tells : goal.returns-in_err-key-clause-tells
 returns-in_err-key-clause-tells c =
     let p = err_from_is_err_and c.from_residual.result c.from_residual.ensures.1 in
-    rw (p.1, p.2) (tells-later (keeps-there c.loop-key.invariant.keeps) c.in_err-key.ensures.tells)
+    let next = c.in_err-key.ensures.passed in
+    rw (p.1, p.2) (tells-later (keeps-there (next.1 _ c.loop-key.invariant).keeps) next.2.tells)
 
 pub returns-then-is_named-clause-finds : goal.returns-then-is_named-clause-finds
 returns-then-is_named-clause-finds c =
-    let named = rw c.in-Some.is at c.in_ok-key.ensures.passed in
-    key-found c.args.name.now _ _ _ (bytes_of (text_of c.in-Some.key)) c.loop-key.invariant named (sym c.is_named.ensures ∙ c.if-is_named.true)
+    let next = c.in_ok-key.ensures.passed in
+    let named = rw c.in-Some.is at next.2.passes in
+    key-found c.args.name.now _ _ _ (bytes_of (text_of c.in-Some.key)) (next.1 _ c.loop-key.invariant) named (sym c.is_named.ensures ∙ c.if-is_named.true)
 
 pub returns-in_err-pass_value-clause-lacks : goal.returns-in_err-pass_value-clause-lacks
 returns-in_err-pass_value-clause-lacks c =
     let p = err_from_is_err_and c.from_residual-in_err-pass_value.result c.from_residual-in_err-pass_value.ensures.1 in
-    let named = rw c.in-Some.is at c.in_ok-key.ensures.passed in
-    rw (p.1, p.2) (no-value c.args.name.now _ _ _ (bytes_of (text_of c.in-Some.key)) (refusal_of c.in_err-pass_value.field-0.0) c.loop-key.invariant named c.in_err-pass_value.ensures.unread)
+    let next = c.in_ok-key.ensures.passed in
+    let named = rw c.in-Some.is at next.2.passes in
+    rw (p.1, p.2) (no-value c.args.name.now _ _ _ (bytes_of (text_of c.in-Some.key)) (refusal_of c.in_err-pass_value.field-0.0) (next.1 _ c.loop-key.invariant) named c.in_err-pass_value.ensures.unread)
 
 pub returns-in_err-pass_value-clause-tells : goal.returns-in_err-pass_value-clause-tells
 returns-in_err-pass_value-clause-tells c =
     let p = err_from_is_err_and c.from_residual-in_err-pass_value.result c.from_residual-in_err-pass_value.ensures.1 in
-    let came = comes-then (keeps-there c.loop-key.invariant.keeps) (goes-there c.next_name.ensures.onward) in
+    let next = c.in_ok-key.ensures.passed in
+    let came = comes-then (keeps-there (next.1 _ c.loop-key.invariant).keeps) (goes-there next.2.onward) in
     rw (p.1, p.2) (tells-later came c.in_err-pass_value.ensures.tells)
+
+pub loop-key-smaller : goal.loop-key-smaller
+loop-key-smaller c =
+    let next = c.in_ok-key.ensures.passed in
+    omega (arith, (next.1 _ (search-begins c.args.name.now c.loop-key.parser)).keeps.onward, next.2.shorter, c.pass_value.ensures.keeps.onward)
 
 pub loop-key-preserved : goal.loop-key-preserved
 loop-key-preserved c =
-    let named = rw c.in-Some.is at c.in_ok-key.ensures.passed in
-    let next = rw c.in-Some.is at c.in_ok-key.ensures.next in
+    let next = c.in_ok-key.ensures.passed in
+    let named = rw c.in-Some.is at next.2.passes in
+    let after = rw c.in-Some.is at next.2.next in
     let other = sym c.is_named.ensures ∙ c.if-is_named.false in
-    let at_value = MatchOption-at_some _ _ c.in-Some.key c.in-Some.is c.in_ok-key.ensures.member in
+    let at_value = MatchOption-at_some _ _ c.in-Some.key c.in-Some.is next.2.member in
     let value = c.in_ok-pass_value.ensures in
-    other-passed c.args.name.now _ _ _ _ (bytes_of (text_of c.in-Some.key)) c.loop-key.invariant named next other at_value c.in_ok-key.ensures.onward value.read value.keeps (value.one_value at_value.1)
+    other-passed c.args.name.now _ _ _ _ (bytes_of (text_of c.in-Some.key)) (next.1 _ c.loop-key.invariant) named after other at_value next.2.onward value.read
+    value.keeps (value.one_value at_value.1)
 
 pub returns-clause-finds : goal.returns-clause-finds
 returns-clause-finds c =
-    let ended = rw c.in_default.is at c.in_ok-key.ensures.passed in
-    none-found c.args.name.now _ _ _ c.loop-key.invariant ended
+    let next = c.in_ok-key.ensures.passed in
+    let ended = rw c.in_default.is at next.2.passes in
+    none-found c.args.name.now _ _ _ (next.1 _ c.loop-key.invariant) ended

@@ -1,5 +1,5 @@
 use Rattle.facet_json_grammar.specs.Now.{ahead}
-use Rattle.facet_json_core.proofs.KeysFound.{IsSearching}
+use Rattle.facet_json_core.specs.Finding.{IsSearching}
 use Rattle.facet_json_core.proofs.steps.find.find_key.Given as goal
 
 abbrev pub invariant-loop-key : goal.invariant-loop-key
