@@ -1,29 +1,21 @@
 -- Members that are read in sight, and that they belong to the object.
 use Rattle.std.proofs.Common.{◌≡◌, ◌≤◌, arith, ℕ, List, ◌∷◌, sym, ap, subst}
-use Rattle.std.specs.Prelude.{◌<◌, Option, None, Result, Ok, Err, IfOk, IfErr, OnOk}
-use Rattle.std.specs.Option.{option_map}
-use Rattle.std.specs.declared.borrow.CowStr.{CowStr}
-use Rattle.facet_format.specs.declared.error.DeserializeError.{DeserializeError}
-use Rattle.facet_format.specs.Event.{ContainerKind, Scalar, bytes_of, object}
-use Rattle.facet_format.specs.HeldText.{text_of}
-use Rattle.facet_format.specs.Views.{refusal_of}
+use Rattle.facet_format.specs.Event.{ContainerKind, Scalar, object}
 use Rattle.facet_json_token.specs.Gap.{plain}
 use Rattle.facet_json_grammar.specs.Future.{after_value, within}
 use Rattle.facet_json_grammar.specs.Language.{lenient}
-use Rattle.facet_json_grammar.specs.Now.{Now, ahead, GoesOn}
+use Rattle.facet_json_grammar.specs.Now.{Now, ahead}
 use Rattle.facet_json_grammar.specs.Place.{after_member}
 use Rattle.facet_json_reader.specs.declared.in_sight.Front.{Front}
-use Rattle.facet_json_reader.specs.Inner.InSight.{IsFront, PassesKeyAt, PassesScalarAt}
+use Rattle.facet_json_reader.specs.Inner.InSight.{IsFront, PassesScalarAt}
 use Rattle.facet_json_parser.specs.Inner.Sight.{standing, StandsThere}
-use Rattle.facet_json_core.specs.Meaning.Objects.{PassesKey, LacksKey}
-use Rattle.facet_json_core.specs.Meaning.OneValue.{PassesMemberOrEnd}
 use Rattle.facet_json_core.specs.Meaning.Scalars.{IsSeen}
-use Rattle.facet_json_core.specs.Refusing.{TellsRefusal}
 use Rattle.facet_json_core.proofs.Meaning.OneValue.WithinValues.{inside-value}
 use Rattle.facet_json_core.proofs.Meaning.Walks.NextOnWalk.{goes-keeps}
-use Rattle.facet_json_core.proofs.SeenValues.{key-far, read-far}
+use Rattle.facet_json_core.proofs.OthersInSight.{NamedFar}
+use Rattle.facet_json_core.proofs.SeenValues.{read-far}
 use Rattle.facet_json.specs.Fields.{Reading, Table}
-use Rattle.facet_json.specs.Inner.MembersInSight.{NamesNext, PassesNamed, PutsMember, PutsMembers, none_put, one_put}
+use Rattle.facet_json.specs.Inner.MembersInSight.{PutsMember, PutsMembers, none_put, one_put}
 use Rattle.facet_json.proofs.FieldSteps.{IsUnderWay, way-goes_on}
 
 module _ {V : Type 0} (t : Table V) (names : List (List ℕ)) (start : Now) where
@@ -54,32 +46,12 @@ module _ {S : Type 0} (step : List ℕ → S → Reading S) (start : Now) (s : S
     stands = subst (λ now. StandsThere now from) (sym there.there) there;
   }
 
-  -- Then a key was passed.
-  pub record NamedFar (at : Front) (name : List ℕ) (value : Front) : Type 0 where
-    pub named : PassesNamed (standing start at) name (standing start value)
-    pub stands : StandsThere (standing start value) value
-
-  abbrev PassesKeyIn : List ℕ → Front → List ℕ → Front → Type 0
-  PassesKeyIn input at name value =
-      (stack : List ContainerKind) → IsFront input (lenient plain) stack at → PassesKeyAt input (lenient plain) stack at name value
-
-  pub named-far : (input : List ℕ) (at value : Front) (t : S) (name : List ℕ) → input ≡ start.buffer → MembersFar at t →
-      PassesKeyIn input at name value → NamedFar at name value
-  named-far input at value t name buffer far passes =
-      let now = standing start at in
-      let there = subst (λ b. PassesKeyIn b at name value) buffer passes now.cursor.spot.place.stack far.stands.front in
-      let key = key-far now at value far.stands name there in
-      record {
-        named = key.named;
-        stands = key.stands;
-      }
-
   abbrev PassesScalarIn : List ℕ → Front → ℕ → Scalar → Front → Type 0
   PassesScalarIn input value len scalar next = (stack : List ContainerKind) → after_value stack ≡ within after_member →
       IsFront input (lenient plain) stack value → PassesScalarAt input (lenient plain) stack value len scalar next
 
   member-at : (others : List ContainerKind) (at value next : Front) (t u : S) (name : List ℕ) (len : ℕ) →
-      start.cursor.spot.place.stack ≡ object ∷ others → MembersFar at t → NamedFar at name value →
+      start.cursor.spot.place.stack ≡ object ∷ others → MembersFar at t → NamedFar start at name value →
       (seen : IsSeen (step name t) start.buffer value.at len u) → PassesScalarIn start.buffer value len seen.there.value next → MembersFar next u
   member-at others at value next t u name len inside far named seen passes =
       let now = standing start value in
@@ -97,7 +69,7 @@ module _ {S : Type 0} (step : List ℕ → S → Reading S) (start : Now) (s : S
 
   -- Its value was read.
   pub member-far : (input : List ℕ) (others : List ContainerKind) (at value next : Front) (t u : S) (name : List ℕ) (len : ℕ) → input ≡ start.buffer →
-      start.cursor.spot.place.stack ≡ object ∷ others → MembersFar at t → NamedFar at name value →
+      start.cursor.spot.place.stack ≡ object ∷ others → MembersFar at t → NamedFar start at name value →
       (seen : IsSeen (step name t) input value.at len u) → PassesScalarIn input value len seen.there.value next → MembersFar next u
   member-far input others at value next t u name len buffer inside far named =
       subst (λ b. (seen : IsSeen (step name t) b value.at len u) → PassesScalarIn b value len seen.there.value next → MembersFar next u) (sym buffer)

@@ -5,7 +5,8 @@ use Rattle.facet_json_parser.specs.Inner.Sight.{standing}
 use Rattle.facet_json_core.proofs.SeenValues.{front-within}
 use Rattle.facet_json.specs.Fields.{keys}
 use Rattle.facet_json.specs.Inner.MembersInSight.{none_put}
-use Rattle.facet_json.proofs.MembersInSight.{members-begin, named-far, member-far}
+use Rattle.facet_json_core.proofs.OthersInSight.{other-named}
+use Rattle.facet_json.proofs.MembersInSight.{members-begin, member-far}
 use Rattle.facet_json.proofs.fields.members_in_sight.Goals as goal
 
 pub returns-in_err-input-clause-put : goal.returns-in_err-input-clause-put
@@ -42,7 +43,7 @@ returns-in_default-put_in_sight-clause-put g c =
     let step = g.F.Fields.step c.args.borrows (keys c.args.names.now) in
     let seen = g.F.Fields.seen c.args.slots.now in
     let far = i.far others inside in
-    let named = named-far step start seen c.in_ok-input.input.now c.loop-key.at c.in-Some.value _ c.in-Some.key.now c.in_ok-input.ensures.input far c.in-Some.ensures.over in
+    let named = other-named start c.in_ok-input.input.now c.loop-key.at c.in-Some.value c.in-Some.key.now c.in_ok-input.ensures.input far.stands c.in-Some.ensures.over in
     let stands : c.stand.new.parser ≡ standing start c.in-Some.value = rw i.same at c.stand.ensures in
     (standing start c.loop-key.at, rw c.in_default-put_in_sight.ensures.same far.puts, rw stands named.named)
 
@@ -59,7 +60,7 @@ loop-key-preserved g c =
       same = i.same;
       far = λ others inside.
           let far = i.far others inside in
-          let named = named-far step start seen c.in_ok-input.input.now c.loop-key.at c.in-Some.value _ c.in-Some.key.now c.in_ok-input.ensures.input far c.in-Some.ensures.over in
+          let named = other-named start c.in_ok-input.input.now c.loop-key.at c.in-Some.value c.in-Some.key.now c.in_ok-input.ensures.input far.stands c.in-Some.ensures.over in
           member-far step start seen c.in_ok-input.input.now others c.loop-key.at c.in-Some.value c.behind_member-at.result _ _ c.in-Some.key.now
           c.in-Some-put_in_sight.len c.in_ok-input.ensures.input inside far named put.put
           (λ stack after reached. behind.over stack put.put.there.value (rw at_value tt) after reached (put.put.there, refl));
