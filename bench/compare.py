@@ -144,6 +144,8 @@ class Bench:
         self.turns = turns
         # Short, so that each side has its share of the times at which the machine is fast.
         self.seconds = 0.02
+        # The first two rounds of a process pay for memory that is new to it.
+        self.fewest = 6
         self.programs = {side: out / name for side, name in PROGRAMS.items() if (out / name).exists()}
         if before:
             self.programs["before"] = pathlib.Path(before).resolve()
@@ -177,7 +179,7 @@ class Bench:
         rounds, seen, least = {}, {}, {}
         for work, side, name in self.works(path):
             spent, seen[work, side] = self.once(side, name, 2, path)
-            rounds[work, side] = max(2, min(400, int(self.seconds * 1e9 / max(spent, 1))))
+            rounds[work, side] = max(self.fewest, min(400, int(self.seconds * 1e9 / max(spent, 1))))
         self.agree(path, seen)
         for _ in range(self.turns):
             for work, side, name in self.works(path):
@@ -266,7 +268,7 @@ def circumstances(bench):
     if "jq" in bench.formatters:
         yield f"jq: {said('jq', '--version')}; json.tool: {said('python3', '--version')}."
     yield f"iso-codes: {package('iso-codes') or 'missing'}. The other inputs are made by `bench/corpora.py`."
-    yield f"Each figure: the shortest of {bench.turns} turns of some {int(bench.seconds * 1000)} ms of the thread's processor time."
+    yield f"Each figure: the shortest of {bench.turns} turns of some {int(bench.seconds * 1000)} ms of the thread's processor time, {bench.fewest} rounds at least."
     if bench.processes:
         yield f"`fmt`: the processor time of a whole process, the shortest of {bench.turns * 3} runs."
     else:
