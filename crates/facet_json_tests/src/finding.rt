@@ -40,7 +40,7 @@ fn are_found(alloc: Global, input: &str, found: &[(&str, Option<u64>)]) -> bool 
 }
 
 /// Inputs, keys, and the numbers that are found, or that none is.
-static FOUND: [(&str, &[(&str, Option<u64>)]); 12] = [
+static FOUND: [(&str, &[(&str, Option<u64>)]); 21] = [
     ("{\"a\":1,\"b\":2,\"c\":3}", &[("a", Some(1))]),
     ("{\"a\":1,\"b\":2,\"c\":3}", &[("b", Some(2))]),
     ("{\"a\":1,\"b\":2,\"c\":3}", &[("c", Some(3))]),
@@ -60,6 +60,37 @@ static FOUND: [(&str, &[(&str, Option<u64>)]); 12] = [
     ("{\"a\":1", &[("a", Some(1))]),
     (
         "{\"x\":[],\"a\":1,\"y\":{},\"b\":2,\"z\":null}",
+        &[("a", Some(1)), ("b", Some(2)), ("a", None)],
+    ),
+    // A name that begins a key, and a key that begins the name.
+    ("{\"ab\":1,\"a\":2}", &[("a", Some(2))]),
+    ("{\"a\":1,\"ab\":2}", &[("ab", Some(2))]),
+    // Each kind of value before it, and gaps.
+    (
+        "{ \"x\" : null , \"y\" : true ,\n\t\"z\" : \"t\" , \"n\" : -12 ,\r\n \"a\" : 7 }",
+        &[("a", Some(7))],
+    ),
+    (
+        "{\"d\":1.5,\"e\":1e3,\"f\":false,\"a\":7}",
+        &[("a", Some(7))],
+    ),
+    (
+        "{\"t\":\"\\u0041\",\"\\u006b\":1,\"a\":7}",
+        &[("a", Some(7))],
+    ),
+    ("{\"t\":\"é\",\"é\":1,\"a\":7,}", &[("a", Some(7))]),
+    (
+        "{\"n\":123456789012345678901234567890,\"l\":[],\"o\":{},\"a\":7}",
+        &[("a", Some(7))],
+    ),
+    // Keys of more than two windows, which differ in their last byte.
+    (
+        "{\"kkkkkkkkkkkkkkkkkkkkkkkkkkkkkkkkka\":1,\"kkkkkkkkkkkkkkkkkkkkkkkkkkkkkkkkkb\":2}",
+        &[("kkkkkkkkkkkkkkkkkkkkkkkkkkkkkkkkkb", Some(2))],
+    ),
+    // One search behind another, up to the end.
+    (
+        "{\"a\":1,\"x\":\"\",\"b\":2,\"y\":0}",
         &[("a", Some(1)), ("b", Some(2)), ("a", None)],
     ),
 ];
